@@ -1,0 +1,44 @@
+// Where a feature stands.
+use std::marker::Model;
+
+/// What turned the bytes of one buffer into those of the next.
+#[derive(Clone, Copy, Debug, PartialEq, Eq)]
+pub enum Decoder {
+    /// Base64 letters (RFC 4648 section 4).
+    Base64,
+    /// Pairs of hexadecimal digits.
+    Hex,
+    /// Pairs of a printable byte and a zero byte.
+    Utf16,
+    /// Each byte XORed with this mask, which is 1 to 255.
+    Xor(u8),
+}
+
+/// A decoder, and a place in what it gave.
+#[derive(Clone, Copy, Debug, PartialEq, Eq)]
+pub struct Step {
+    pub by: Decoder,
+    pub at: u64,
+}
+
+/// The steps of a path, the outermost first.
+#[derive(Drop)]
+pub struct Steps {
+    items: Vec<Step>,
+}
+
+impl Model for Steps {
+    ghost use Rattle.std.specs.Prelude.{List};
+    ghost use Rattle.forensic_path.specs.declared.path.Step.{Step};
+
+    ghost Value = { List Step };
+
+    ghost view = { λ s. s.items.items };
+}
+
+/// An offset in the image, in bytes, and the steps from there.
+#[derive(Drop)]
+pub struct Path {
+    pub top: u64,
+    pub steps: Steps,
+}
