@@ -1,0 +1,2 @@
+pub mod FeatureFile
+pub mod Files
