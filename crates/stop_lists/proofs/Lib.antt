@@ -1,0 +1,2 @@
+pub mod NoLists
+mod Rows
