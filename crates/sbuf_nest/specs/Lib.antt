@@ -1,2 +1,4 @@
 pub mod Around
+pub mod Edges
+pub mod Numbers
 pub mod Turns
