@@ -48,12 +48,8 @@ pub ethernet_alone : ether_of (look_at (ethernet 8 0) 0) ≡ None
 unfolding ether_of begins_ipv4 look_at
 ethernet_alone = refl
 
-<<<<<<< HEAD
-pub ethernet_before_a_wrong_checksum : ether_of (look_at (ethernet 8 0 ++ header 0x45 115 64 17 0xb8 0x62) 0) ≡ None
-=======
 pub ethernet_before_a_wrong_checksum :
     ether_of (look_at (ethernet 8 0 ++ header 0x45 115 64 17 0xb8 0x62) 0) ≡ None
->>>>>>> e4d68f4d9deb4c1032c7cf3e4414cb9d5c4c91f5
 unfolding ether_of begins_ipv4 look_at
 ethernet_before_a_wrong_checksum = refl
 
