@@ -1,0 +1,3 @@
+pub mod Decoders
+pub mod Here
+pub mod Shapes
