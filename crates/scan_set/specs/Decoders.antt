@@ -41,4 +41,5 @@ pub record Decoded : Type 0 where
 
 -- the values of the texts that begin at the place
 unfoldable pub decoded : ScanPlan → Around → List Decoded
-decoded plan look = map (λ text. record { by = text.by; value = value_of text.by (take text.extent look.after) }) (texts plan look)
+decoded plan look =
+    map (λ text. record { by = text.by; value = value_of text.by (take text.extent look.after) }) (texts plan look)

@@ -26,15 +26,17 @@ abbrev pub at_places : (Around → ℕ → List Feature) → List ℕ → List F
 at_places features bytes = flat_map (λ place. features (look_at bytes place) place) (range_with_len 0 (length bytes))
 
 module _ (patterns : List (List ℕ → Option ℕ)) (plan : ScanPlan) where
-  -- The features at one place of the buffer that the turns lead to, where the limit of depth leaves so many levels:
-  -- first those of the place's shapes; then, where a level is left, those of each value that is decoded there, as a
-  -- buffer of its own; and last, where a mask is set and no XOR view was taken on the way, those of the place XORed.
+  -- The features at one place of the buffer that the turns lead to, where the limit of depth leaves so
+  -- many levels: first those of the place's shapes. Where a level is left, those of each value that is
+  -- decoded there follow, as a buffer of its own; and last, where a mask is set and no XOR view was
+  -- taken on the way, those of the place as the mask shows it.
   unfoldable pub here : ℕ → List Turn → Around → ℕ → List Feature
   here zero turns look place = map (feature_of plan look (path_at turns place)) (shapes patterns plan look)
   here (suc left) turns look place =
       map (feature_of plan look (path_at turns place)) (shapes patterns plan look)
       ++ flat_map (λ (d : Decoded). at_places (here left (turned turns place d.by)) d.value) (decoded plan look)
-      ++ when (nat_lt 0 plan.mask && not (has_xor turns)) (here left (turned turns place (Xor plan.mask)) (xored plan.mask look) 0)
+      ++ when (nat_lt 0 plan.mask && not (has_xor turns))
+      (here left (turned turns place (Xor plan.mask)) (xored plan.mask look) 0)
 
   -- the features of a buffer
   abbrev pub all_of : ℕ → List Turn → List ℕ → List Feature
