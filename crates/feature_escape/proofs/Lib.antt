@@ -1,1 +1,2 @@
+pub mod LenientLaw
 mod Rows
