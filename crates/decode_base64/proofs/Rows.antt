@@ -107,7 +107,7 @@ unfolding base64_extent base64_class look_at
 lines_of_one_length = refl
 
 pub shorter_line_is_the_last :
-    base64_extent (look_at (letters_32 ++ codes "\n" ++ letters_31 ++ codes "\n" ++ letters_32) 0) ≡ Some 64
+    base64_extent (look_at (letters_32 ++ codes "\n" ++ letters_31 ++ codes "\r\n" ++ letters_32) 0) ≡ Some 64
 unfolding base64_extent base64_class look_at
 shorter_line_is_the_last = refl
 

@@ -1,4 +1,4 @@
--- A run of printable ASCII in UTF-16LE (RFC 2781 section 4.2) at a place, and its value.
+-- A run of printable ASCII in UTF-16LE (RFC 2781 section 3.1) at a place, and its value.
 use Rattle.std.specs.Prelude.{ℕ, ◌+◌, ◌-◌, ◌*◌, ◌==◌, ◌&&◌, nat_le, Bool, min, List, [], ◌∷◌, length, take, drop, Option, Some, None, option_map, if◌then◌else◌}
 use Rattle.byte_kit.specs.Classes.{printable_class}
 use Rattle.sbuf_nest.specs.Around.{Around}

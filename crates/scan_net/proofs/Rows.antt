@@ -68,16 +68,18 @@ pub version_6 : begins_ipv4 (header 0x65 115 64 17 0x98 0x61) ≡ false
 unfolding begins_ipv4
 version_6 = refl
 
-pub four_words : begins_ipv4 (header 0x44 115 64 17 0xb9 0x61) ≡ false
+-- the checksum is right for 16 bytes
+pub four_words : begins_ipv4 (header 0x44 115 64 17 0x7a 0xd1) ≡ false
 unfolding begins_ipv4
 four_words = refl
 
 -- one word of options, which the checksum takes in
-pub six_words : begins_ipv4 (header 0x46 24 64 17 0xb5 0xbb ++ 1 ∷ 1 ∷ 1 ∷ 0 ∷ []) ≡ true
+pub six_words : begins_ipv4 (header 0x46 24 64 17 0xb6 0xbb ++ 1 ∷ 1 ∷ 0 ∷ 0 ∷ []) ≡ true
 unfolding begins_ipv4
 six_words = refl
 
-pub last_byte_of_the_options_is_missing : begins_ipv4 (header 0x46 24 64 17 0xb5 0xbb ++ 1 ∷ 1 ∷ 1 ∷ []) ≡ false
+-- it is a zero, and the checksum is right without it
+pub last_byte_of_the_options_is_missing : begins_ipv4 (header 0x46 24 64 17 0xb6 0xbb ++ 1 ∷ 1 ∷ 0 ∷ []) ≡ false
 unfolding begins_ipv4
 last_byte_of_the_options_is_missing = refl
 
