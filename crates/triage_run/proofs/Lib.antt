@@ -1,0 +1,5 @@
+pub mod Calls
+pub mod Lists
+pub mod Looks
+mod ReportRows
+pub mod UrlReport

@@ -1,0 +1,99 @@
+-- Worked rows of whole report files, as laws that compute.
+use Rattle.std.specs.Prelude.{◌≡◌, ℕ, List, [], ◌∷◌, ◌++◌, codes, Option, Some, None, refl, replicate}
+use Rattle.scan_set.specs.declared.plan.ScanPlan.{ScanPlan}
+use Rattle.scan_set.proofs.Shown.{shown}
+use Rattle.feature_escape.specs.Escape.{escape_of, unescape_lenient_of}
+use Rattle.stop_lists.specs.Lists.{entries_of, class_under}
+use Rattle.feature_file.specs.Files.{report_files}
+use Rattle.feature_file.specs.FeatureFile.{header_of, line_of, file_text}
+use Rattle.count_histogram.specs.Histogram.{rows_of, row_line_of, histogram_text}
+use Rattle.triage_run.specs.Case.{Case, classed_of, report, case_of, no_match}
+
+-- every scanner but that of words, as a scan has them by default
+abbrev default_plan : ScanPlan
+default_plan = record { scanners = 0x03BF; depth = 5; mask = 0; word_min = 6; word_max = 14; context = 16; keywords = []; patterns = [] }
+
+-- a report file of an image under a stop list and an alert list
+unfoldable file_under : List ℕ → List ℕ → List ℕ → ℕ → Option (List ℕ)
+unfolding shown escape_of unescape_lenient_of entries_of class_under report_files header_of line_of file_text rows_of row_line_of histogram_text classed_of report
+file_under stop alert image number =
+    report no_match (record { image = image; stop = stop; alert = alert; page = 16777216; plan = default_plan; readings = [] }) number
+
+-- ---- what is built
+
+-- what the program writes for an image
+unfoldable built_file : List ℕ → ℕ → Option (List ℕ)
+unfolding shown escape_of entries_of class_under report_files header_of line_of file_text classed_of report
+built_file image number = report no_match (case_of image) number
+
+a_url_is_its_own_context : built_file (codes "see http://example.com/a b") 1
+    ≡ Some (codes "# triage feature file, format 1\n# file: url.txt\n# columns: path, feature, context\n4\thttp://example.com/a\thttp://example.com/a\n")
+unfolding built_file
+a_url_is_its_own_context = refl
+
+an_empty_image_has_the_header_alone : built_file [] 1
+    ≡ Some (codes "# triage feature file, format 1\n# file: url.txt\n# columns: path, feature, context\n")
+unfolding built_file
+an_empty_image_has_the_header_alone = refl
+
+a_url_in_a_url_has_a_line_of_its_own : built_file (codes "http://a.b/?u=http://c.d/") 1
+    ≡ Some (codes "# triage feature file, format 1\n# file: url.txt\n# columns: path, feature, context\n0\thttp://a.b/?u=http://c.d/\thttp://a.b/?u=http://c.d/\n14\thttp://c.d/\thttp://c.d/\n")
+unfolding built_file
+a_url_in_a_url_has_a_line_of_its_own = refl
+
+domains_are_not_written_yet : built_file (codes "see http://example.com/a b") 2 ≡ None
+unfolding built_file
+domains_are_not_written_yet = refl
+
+-- ---- the whole report
+
+a_domain_with_its_context : file_under [] [] (codes "see http://example.com/a b") 2
+    ≡ Some (codes "# triage feature file, format 1\n# file: domain.txt\n# columns: path, feature, context\n11\texample.com\tsee http://example.com/a b\n")
+unfolding file_under
+a_domain_with_its_context = refl
+
+services_are_counted : file_under [] [] (codes "http://a.b/?u=http://c.d/") 22
+    ≡ Some (codes "# triage histogram, format 1\n# file: url_services_histogram.txt\nn=1\thttp://a.b\nn=1\thttp://c.d\n")
+unfolding file_under
+services_are_counted = refl
+
+a_url_in_base64 : file_under [] [] (codes "  aHR0cDovL2V4YW1wbGUuY29tL2hlbGxvLXdvcmxkLTE=") 1
+    ≡ Some (codes "# triage feature file, format 1\n# file: url.txt\n# columns: path, feature, context\n2-BASE64-0\thttp://example.com/hello-world-1\thttp://example.com/hello-world-1\n")
+unfolding file_under
+a_url_in_base64 = refl
+
+-- an entry of a feature and its context stops the domain ..
+a_stopped_domain : file_under (codes "example.com\tsee http://example.com/a b") [] (codes "see http://example.com/a b") 12
+    ≡ Some (codes "# triage feature file, format 1\n# file: domain_stopped.txt\n# columns: path, feature, context\n11\texample.com\tsee http://example.com/a b\n")
+unfolding file_under
+a_stopped_domain = refl
+
+a_stopped_domain_is_not_counted : file_under (codes "example.com\tsee http://example.com/a b") [] (codes "see http://example.com/a b") 23
+    ≡ Some (codes "# triage histogram, format 1\n# file: domain_histogram.txt\n")
+unfolding file_under
+a_stopped_domain_is_not_counted = refl
+
+-- .. but not in another context, nor where it is an alert
+another_context_stops_nothing : file_under (codes "example.com\tother") [] (codes "see http://example.com/a b") 12
+    ≡ Some (codes "# triage feature file, format 1\n# file: domain_stopped.txt\n# columns: path, feature, context\n")
+unfolding file_under
+another_context_stops_nothing = refl
+
+an_alert_beats_a_stop : file_under (codes "example.com\tsee http://example.com/a b") (codes "example.com") (codes "see http://example.com/a b") 9
+    ≡ Some (codes "# triage feature file, format 1\n# file: alerts.txt\n# columns: path, feature, context\n11\texample.com\tsee http://example.com/a b\n")
+unfolding file_under
+an_alert_beats_a_stop = refl
+
+an_alert_is_not_stopped : file_under (codes "example.com\tsee http://example.com/a b") (codes "example.com") (codes "see http://example.com/a b") 12
+    ≡ Some (codes "# triage feature file, format 1\n# file: domain_stopped.txt\n# columns: path, feature, context\n")
+unfolding file_under
+an_alert_is_not_stopped = refl
+
+-- words are off by default, and the spool is no report file
+no_file_of_words : file_under [] [] (codes "strawberry") 8 ≡ None
+unfolding file_under
+no_file_of_words = refl
+
+the_spool_is_no_report_file : file_under [] [] (codes "strawberry") 0 ≡ None
+unfolding file_under
+the_spool_is_no_report_file = refl

@@ -1,0 +1,68 @@
+-- What a scan is of, and the report that it leaves.
+use Rattle.std.specs.Prelude.{◌≡◌, ℕ, ◌++◌, ◌==◌, ◌/◌, not, ◌||◌, Bool, IsTrue, List, [], ◌∷◌, map, filter, Option, Some, None, IfSome, option_map, option_and_then, if◌then◌else◌}
+use Rattle.forensic_path.specs.declared.feature.Classed.{Classed}
+use Rattle.host_disk.specs.Files.{Files}
+use Rattle.host_disk.specs.Disk.{DiskNature}
+use Rattle.scan_set.specs.declared.plan.ScanPlan.{ScanPlan}
+use Rattle.scan_set.specs.Here.{features_of}
+use Rattle.stop_lists.specs.Lists.{classed_by}
+use Rattle.feature_file.specs.Files.{is_written, is_histogram}
+use Rattle.feature_file.specs.FeatureFile.{file_text}
+use Rattle.count_histogram.specs.Histogram.{histogram_text}
+
+-- the input of a scan as plain data; a reading is what the text of a pattern was read as
+pub record Case (R : Type 0) : Type 0 where
+  pub image : List ℕ
+  pub stop : List ℕ
+  pub alert : List ℕ
+  pub page : ℕ
+  pub plan : ScanPlan
+  pub readings : List R
+
+-- `matches` is how long what a reading matches at the front of bytes is
+module _ {R : Type 0} (matches : R → List ℕ → Option ℕ) where
+  -- the features of the image, each with its class
+  unfoldable pub classed_of : Case R → List Classed
+  classed_of c = classed_by c.stop c.alert (features_of (map matches c.readings) c.plan c.image)
+
+  -- the text of a report file, where it is written: of features, or a histogram
+  unfoldable pub report : Case R → ℕ → Option (List ℕ)
+  report c number =
+      if (number == 0) || not (is_written number c.plan.scanners) then None
+      else (if is_histogram number then Some (histogram_text number (classed_of c)) else Some (file_text number (classed_of c)))
+
+  -- the features of a page, by their offsets in the image
+  abbrev pub page_list : Case R → ℕ → List Classed
+  page_list c page = filter (λ (f : Classed). f.item.path.top / c.page == page) (classed_of c)
+
+  -- the files with these numbers are the report
+  abbrev pub AreReport : List ℕ → Case R → Files → Type 0
+  AreReport [] c files = Unit {0}
+  AreReport (number ∷ numbers) c files = IfSome (report c number) (λ text. files number ≡ text) × AreReport numbers c files
+
+-- the parts of an image, joined, where all of them are told
+abbrev pub joined : (List ℕ → Option (List ℕ)) → List (List ℕ) → Option (List ℕ)
+joined told [] = Some []
+joined told (name ∷ names) = option_and_then (λ bytes. option_map (λ rest. bytes ++ rest) (joined told names)) (told name)
+
+-- ---- what is built
+
+-- the report files that a scan writes
+abbrev pub built : List ℕ
+built = 1 ∷ []
+
+-- the plan of every scan: the scanner of URLs in the image itself, without context
+abbrev pub plan_built : ScanPlan
+plan_built = record { scanners = 1; depth = 0; mask = 0; word_min = 6; word_max = 14; context = 0; keywords = []; patterns = [] }
+
+-- the case of an image
+abbrev pub case_of : List ℕ → Case (Unit {0})
+case_of image = record { image = image; stop = []; alert = []; page = 16777216; plan = plan_built; readings = [] }
+
+-- there are no patterns
+abbrev pub no_match : Unit {0} → List ℕ → Option ℕ
+no_match reading bytes = None
+
+-- the files that are built are the report of the image, as far as the image and the disk's files are told
+abbrev pub LeavesReport : Option (List ℕ) → DiskNature → Files → Type 0
+LeavesReport image nature files = IfSome image (λ bytes. IsTrue nature.tells → AreReport no_match built (case_of bytes) files)

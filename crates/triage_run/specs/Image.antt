@@ -1,0 +1,10 @@
+-- Why the image was not read.
+use Rattle.std.specs.Prelude.{ℕ}
+use Rattle.byte_kit.specs.Counts.{Rose}
+use Rattle.triage_run.specs.declared.image.ReadEnd.{ReadEnd}
+use Rattle.triage_run.specs.declared.image.ReadEnd.TheVariants.{Fault, NoMemory}
+
+-- a fault comes only where the count rose; want of memory is free
+abbrev pub IsReadCause : ℕ → ℕ → ReadEnd → Type 0
+IsReadCause before now Fault = Rose before now
+IsReadCause before now NoMemory = Unit {0}

@@ -1,0 +1,71 @@
+// How a call ends.
+ghost use Rattle.std.specs.Prelude.{◌≡◌};
+ghost use Rattle.triage_run.specs.Status.{number_of};
+
+/// How a call ends. Each status but `Done` is a refusal, and comes only where its cause is.
+#[derive(Clone, Copy, Debug, PartialEq, Eq)]
+pub enum Status {
+    /// The command was done.
+    Done,
+    /// The word of this number, counted from 0, is the first bad one.
+    Usage { word: u32, why: Why },
+    /// The source failed.
+    ReadFault { place: ReadPlace },
+    /// The disk failed.
+    DiskFault,
+    /// The allocator had no room.
+    NoMemory,
+    /// The input has a form that isn't built yet.
+    NotYet { what: Unbuilt },
+}
+
+/// Why a word is bad.
+#[derive(Clone, Copy, Debug, PartialEq, Eq)]
+pub enum Why {
+    /// There is no word.
+    NoCommand,
+    /// Word 0 is no command.
+    UnknownCommand,
+    /// A word in an option's place is no option.
+    UnknownOption,
+    /// There are more place words than a scan takes.
+    TooMany,
+    /// There are fewer than two place words.
+    PlaceMissing,
+}
+
+/// What a source failed to give.
+#[derive(Clone, Copy, Debug, PartialEq, Eq)]
+pub enum ReadPlace {
+    /// A part of the image could not be attached.
+    Image,
+    /// The bytes of this page could not be read.
+    Page(u64),
+}
+
+/// A form of input that isn't built yet.
+#[derive(Clone, Copy, Debug, PartialEq, Eq)]
+pub enum Unbuilt {
+    /// An image in more than one part.
+    Parts,
+    /// An image of this size in bytes.
+    Size(u64),
+}
+
+impl Status {
+    ghost use Rattle.triage_run.specs.Status.{number_of};
+
+    /// The exit status of a program that ends so.
+    pub fn number(&self) -> u8
+        ensures { result ≡ number_of self.now }
+    {
+        match self {
+            Status::Done => 0,
+            Status::Usage { .. } => 2,
+            Status::ReadFault { .. } => 4,
+            Status::DiskFault => 8,
+            Status::NoMemory => 14,
+            Status::NotYet { .. } => 15,
+        }
+    }
+}
