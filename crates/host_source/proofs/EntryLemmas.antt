@@ -1,21 +1,20 @@
 -- Entries by their names: each is the one that its name finds, also after one more was added.
-use Rattle.std.proofs.Common.{◌≡◌, ◌≢◌, ℕ, zero, suc, ◌<◌, ◌+◌, ◌≤◌, Bool, true, false, not, List, [], ◌∷◌, ◌++◌, length, get_or, set, take, drop, Option, Some, None, refl, ap, sym, subst, ◌∙◌, if◌then◌else◌, arith, add-one, rules}
+use Rattle.std.proofs.Common.{◌≡◌, ℕ, zero, suc, ◌<◌, Bool, true, false, List, [], ◌∷◌, ◌++◌, length, get_or, set, take, drop, Option, Some, None, refl, ap, sym, subst, if◌then◌else◌, arith}
 use Rattle.std.proofs.lemmas.List.{length_push}
 use Rattle.std.proofs.lemmas.Grind.{common_steps}
 use Rattle.std.proofs.lemmas.Option.{gets, slice_get-get_or, cond_some}
-use Rattle.std.proofs.Common.{nat_lt}
 use Rattle.host_source.proofs.SlotLemmas.{put-set}
 use mathlib.Core.Path.{fun_ext}
 use Rattle.std.proofs.lemmas.List.Folds.{find_at, find-append}
 use Rattle.std.proofs.lemmas.List.Quantifiers.{position-Some, all_pairs_push}
 use Rattle.std.proofs.lemmas.Slice.Eq.{bytes_eq-Decides}
-use Rattle.std.specs.Prelude.{position, find, slice_get, option_map, option_and_then, IsSome, IfSome}
+use Rattle.std.specs.Prelude.{position, find, slice_get, option_map, option_and_then}
 use Rattle.std.specs.Option.{option_or}
 use Rattle.std.specs.List.{position_or_len}
 use Rattle.std.specs.Str.{bytes_eq}
 use Rattle.host_source.specs.declared.entry.Entry.{Entry}
-use Rattle.host_source.specs.Source.{open_nature, holding, told, Attaches, Reads, Slot}
-use Rattle.host_source.specs.Entries.{is_named, held_in, slots_in, slot_of, AreApart, PointInside}
+use Rattle.host_source.specs.Source.{Slot, Attaches, AddsName, Reads}
+use Rattle.host_source.specs.Entries.{is_named, held_in, nature_of, slots_in, slot_of, AreApart, PointInside}
 
 bytes_eq_same : (xs : List ℕ) → bytes_eq xs xs ≡ true
 bytes_eq_same xs = (bytes_eq-Decides xs xs).1 refl
@@ -77,13 +76,20 @@ either true o entry absent = rw absent refl
 either false None entry absent = refl
 either false (Some e) entry absent = refl
 
--- one more entry, of a new name, is what this name holds
-pub held_in-push : (es : List Entry) (entry : Entry) → held_in es entry.name ≡ None → (name : List ℕ) →
+held_in-push : (es : List Entry) (entry : Entry) → held_in es entry.name ≡ None → (name : List ℕ) →
     held_in (es ++ entry ∷ []) name ≡ (if bytes_eq name entry.name then Some entry.bytes else held_in es name)
 held_in-push es entry absent name =
     rw find-append (either (bytes_eq name entry.name) (find (is_named name) es) entry
     (λ is. let same : name ≡ entry.name = (bytes_eq-Decides name entry.name).0 is in
     rw same (map_none (λ (e : Entry). e.bytes) (find (is_named entry.name) es) absent)))
+
+-- one more entry, of a new name, adds its name and its bytes
+pub adds_name : (es : List Entry) (entry : Entry) → held_in es entry.name ≡ None →
+    AddsName (nature_of es) (nature_of (es ++ entry ∷ [])) entry.name entry.bytes
+adds_name es entry absent = record {
+  added = rw (held_in-push es entry absent entry.name, bytes_eq_same) refl;
+  others = λ other differs. rw (held_in-push es entry absent other, bytes_eq_other other entry.name differs) refl;
+}
 
 -- one more entry leaves each slot as it was
 pub slots_in-push : (es : List Entry) (places : List (Option ℕ)) (entry : Entry) → PointInside es places → (slot : ℕ) →
@@ -113,14 +119,12 @@ after_push P false es now entry is more same = subst P (sym is) same
 -- a slot that takes the place of its name's entry attaches the name
 pub attaches : (es : List Entry) (places : List (Option ℕ)) (slot place : ℕ) (name : List ℕ) (entry : Entry) →
     slot < length places → position (is_named name) es ≡ Some place → entry ≡ get_or es place entry →
-    Attaches (open_nature (held_in es)) (slots_in es places) (slots_in es (set places slot (Some place))) slot name (length entry.bytes)
+    Attaches (nature_of es) (slots_in es places) (slots_in es (set places slot (Some place))) slot name (length entry.bytes)
 attaches es places slot place name entry below found is =
-    let at : (place < length es) × (bytes_eq name (get_or es place entry).name ≡ true) × ((k : ℕ) → k < place → bytes_eq name (get_or es k entry).name ≡ false) =
-    position-Some (is_named name) es place entry found in
+    let at = position-Some (is_named name) es place entry found in
     let lt : place < length es = at.0 in
     let named : name ≡ entry.name = rw is ((bytes_eq-Decides name (get_or es place entry).name).0 at.1) in
-    let first : position_or_len (is_named name) es ≡ place =
-    (cond_some (nat_lt (position_or_len (is_named name) es) (length es)) (position_or_len (is_named name) es) place found).1 in
+    let first : position_or_len (is_named name) es ≡ place = (cond_some _ _ place found).1 in
     let holds : held_in es name ≡ Some entry.bytes = rw (find_at, first, slice_get-get_or es place entry lt, ← is) refl in
     let put_at : Option ℕ → Option Slot = option_and_then (λ k. option_map slot_of (slice_get es k)) in
     let here : put_at (Some place) ≡ Some (record { name = name; size = length entry.bytes }) =
@@ -136,6 +140,6 @@ attaches es places slot place name entry below found is =
 pub reads : (es : List Entry) (places : List (Option ℕ)) (slot place at : ℕ) (read : List ℕ) (entry : Entry) →
     AreApart es → get_or places slot None ≡ Some place → place < length es → entry ≡ get_or es place entry →
     read ≡ take (length read) (drop at entry.bytes) →
-    Reads (open_nature (held_in es)) (slots_in es places) slot at read
+    Reads (nature_of es) (slots_in es places) slot at read
 reads es places slot place at read entry apart attached lt is copied =
     rw (attached, slice_get-get_or es place entry lt, ← is, held_at es place entry apart lt is) copied

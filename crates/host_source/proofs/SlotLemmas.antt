@@ -1,5 +1,5 @@
 -- Slots in an array: what a fresh array attaches, and what a write to one slot changes.
-use Rattle.std.proofs.Common.{◌≡◌, ◌≢◌, ℕ, zero, suc, ◌<◌, Bool, true, false, cond, List, [], ◌∷◌, length, get_or, set, replicate, Option, refl, arith, nat_eq}
+use Rattle.std.proofs.Common.{◌≡◌, ℕ, zero, suc, ◌<◌, List, length, get_or, set, replicate, refl, arith}
 use Rattle.std.proofs.lemmas.Grind.{common_steps}
 use Rattle.byte_kit.specs.Places.{put}
 

@@ -1,9 +1,9 @@
 -- What a source in memory holds: entries of a name and its bytes, and for a slot the place of an entry.
-use Rattle.std.specs.Prelude.{◌≡◌, ◌≢◌, ℕ, ◌<◌, Bool, List, length, Option, Some, None, option_and_then, option_map, find, slice_get, slice_index_or}
+use Rattle.std.specs.Prelude.{◌≡◌, ◌≢◌, ℕ, ◌<◌, Bool, true, List, length, Option, Some, None, option_and_then, option_map, find, slice_get, slice_index_or}
 use Rattle.std.specs.Str.{bytes_eq}
 use Rattle.std.specs.List.{AllPairs}
 use Rattle.host_source.specs.declared.entry.Entry.{Entry}
-use Rattle.host_source.specs.Source.{Slot}
+use Rattle.host_source.specs.Source.{Slot, SourceNature}
 
 -- the entry has this name
 abbrev pub is_named : List ℕ → Entry → Bool
@@ -12,6 +12,10 @@ is_named name entry = bytes_eq name entry.name
 -- what the entries hold under a name
 abbrev pub held_in : List Entry → List ℕ → Option (List ℕ)
 held_in entries name = option_map (λ e. e.bytes) (find (is_named name) entries)
+
+-- the entries as a source: it tells what they hold, and may be asked for every name
+abbrev pub nature_of : List Entry → SourceNature
+nature_of entries = record { held = Some (held_in entries); may_attach = λ _. true }
 
 -- an entry's name and size
 abbrev pub slot_of : Entry → Slot

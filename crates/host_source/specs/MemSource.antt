@@ -2,12 +2,12 @@
 use Rattle.std.specs.Prelude.{ℕ, Option}
 use Rattle.host_source.specs.declared.mem_source.MemSource.{MemSource}
 use Rattle.host_source.specs.Calls.{CallPlan}
-use Rattle.host_source.specs.Entries.{held_in, slots_in}
-use Rattle.host_source.specs.Source.{SourceNature, Slot, open_nature}
+use Rattle.host_source.specs.Entries.{nature_of, slots_in}
+use Rattle.host_source.specs.Source.{SourceNature, Slot}
 
 -- it tells what its entries hold, and may be asked for every name
 abbrev pub mem_nature : MemSource → SourceNature
-mem_nature source = open_nature (held_in source.entries.items)
+mem_nature source = nature_of source.entries.items
 
 -- what is attached to each slot
 abbrev pub mem_slots : MemSource → ℕ → Option Slot

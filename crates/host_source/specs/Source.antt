@@ -1,6 +1,5 @@
 -- A source: bytes under names, of which some are attached to numbered slots.
-use Rattle.std.specs.Prelude.{◌≡◌, ◌≢◌, ℕ, ◌+◌, ◌^◌, ◌<◌, ◌≤◌, Bool, true, IsTrue, if◌then◌else◌, List, length, take, drop, Option, Some, None, IsSome, IsSomeAnd, IfSome, option_and_then, option_map, slice_index_or, false}
-use Rattle.std.specs.Str.{bytes_eq}
+use Rattle.std.specs.Prelude.{◌≡◌, ◌≢◌, ℕ, ◌+◌, ◌^◌, ◌<◌, ◌≤◌, ◌↔◌, Bool, IsTrue, List, length, take, drop, Option, Some, None, IsSome, IsSomeAnd, IfSome, option_and_then}
 use Rattle.byte_kit.specs.Places.{put}
 
 -- what a slot has attached: a name, and how many bytes it holds
@@ -44,20 +43,17 @@ Reads nature slots slot at read = IfSome (told_at nature slots slot) (λ bytes. 
 abbrev pub MayAttachAll : SourceNature → Type 0
 MayAttachAll nature = (name : List ℕ) → IsTrue (nature.may_attach name)
 
--- a source that tells what each name holds, and may be asked for every name
-abbrev pub open_nature : (List ℕ → Option (List ℕ)) → SourceNature
-open_nature held = record { held = Some held; may_attach = λ _. true }
+-- no name is there
+abbrev pub HoldsNothing : SourceNature → Type 0
+HoldsNothing nature = (name : List ℕ) → told nature name ≡ None
 
--- a source that tells these bytes under this name, and may be asked for no other
-abbrev pub sole_nature : List ℕ → List ℕ → SourceNature
-sole_nature name bytes = record { held = Some (λ n. if bytes_eq n name then Some bytes else None); may_attach = λ n. bytes_eq n name }
+-- the name holds these bytes, and every other name holds what it held
+pub record AddsName (old new : SourceNature) (name bytes : List ℕ) : Type 0 where
+  pub added : told new name ≡ Some bytes
+  pub others : (other : List ℕ) → other ≢ name → told new other ≡ told old other
 
--- the same source, but for this name, which holds these bytes
-abbrev pub holding : List ℕ → List ℕ → SourceNature → SourceNature
-holding name bytes nature =
-    record nature { held = option_map (λ held n. if bytes_eq n name then Some bytes else held n) nature.held }
-
--- the slots of a source of one name: those that are marked have it attached
-abbrev pub sole_slots : List ℕ → ℕ → List Bool → ℕ → Option Slot
-sole_slots name size attached slot =
-    if slice_index_or attached slot false then Some (record { name = name; size = size }) else None
+-- the name holds these bytes, and it is the one name that is there and that may be asked for
+pub record HoldsOnly (nature : SourceNature) (name bytes : List ℕ) : Type 0 where
+  pub holds : told nature name ≡ Some bytes
+  pub others : (other : List ℕ) → other ≢ name → told nature other ≡ None
+  pub asked : (other : List ℕ) → IsTrue (nature.may_attach other) ↔ (other ≡ name)

@@ -1,7 +1,7 @@
 // Calls that are counted, and those among them that are to fail.
-ghost use Rattle.std.specs.Prelude.{◌≡◌, ◌≤◌, ◌↔◌, ◌++◌, [], OnOk, OnErr, IsErr, Contains};
+ghost use Rattle.std.specs.Prelude.{◌≡◌, ◌≤◌, ◌↔◌, [], OnOk, OnErr, IsErr, Contains};
 ghost use Rattle.byte_kit.specs.Counts.{HasCause};
-ghost use Rattle.host_source.specs.Calls.{one_more};
+ghost use Rattle.host_source.specs.Calls.{after_call, after_fault, with_failing};
 
 use crate::SourceFault;
 use byte_kit::NoMemory;
@@ -17,7 +17,6 @@ pub struct Calls {
 }
 
 impl Model for Calls {
-    ghost use Rattle.byte_kit.specs.Counts.{HasCause};
     ghost use Rattle.host_source.specs.Calls.{CallPlan};
 
     ghost Value = { CallPlan };
@@ -39,7 +38,7 @@ impl Calls {
 
     /// Names further calls that are to fail. Refused, it names none.
     pub fn fail(&mut self, calls: &[u64]) -> Result<(), NoMemory>
-        ensures named { OnOk result (self.new ≡ record self.old { failing = self.old.failing ++ calls.now }) }
+        ensures named { OnOk result (self.new ≡ with_failing self.old calls.now) }
         ensures refused { OnErr result (self.new ≡ self.old) }
     {
         self.failing.extend_from_slice(calls)?;
@@ -49,8 +48,8 @@ impl Calls {
     /// Counts a call. One that is to fail is a counted fault.
     pub fn begin(&mut self) -> Result<(), SourceFault>
         ensures planned { IsErr result ↔ Contains self.old.failing self.old.made }
-        ensures ok { OnOk result (self.new ≡ record self.old { made = one_more self.old.made }) }
-        ensures err { OnErr result (self.new ≡ record self.old { made = one_more self.old.made; faults = one_more self.old.faults }) }
+        ensures ok { OnOk result (self.new ≡ after_call self.old) }
+        ensures err { OnErr result (self.new ≡ after_fault (after_call self.old)) }
         ensures cause { HasCause self.old.faults self.new.faults result }
     {
         let call = self.made;
@@ -63,7 +62,7 @@ impl Calls {
 
     /// Counts a fault.
     pub fn fault(&mut self) -> SourceFault
-        ensures counted { self.new ≡ record self.old { faults = one_more self.old.faults } }
+        ensures counted { self.new ≡ after_fault self.old }
         ensures later { self.old.faults ≤ self.new.faults }
     {
         self.faults = self.faults.saturating_add(1);

@@ -1,7 +1,8 @@
 // A name with its bytes, and what is read of the bytes.
-ghost use Rattle.std.specs.Prelude.{◌≡◌, ◌+◌, ◌^◌, ◌<◌, ◌≤◌, length, take, drop, position};
+ghost use Rattle.std.specs.Prelude.{◌≡◌, ◌+◌, ◌^◌, ◌<◌, ◌≤◌, length, take, drop, IfOk};
 
-use byte_kit::{Bytes, Name};
+use byte_kit::{Bytes, Name, NoMemory};
+use std::alloc::Global;
 
 /// Fewer than 2^57 bytes under a name.
 #[derive(Drop)]
@@ -9,6 +10,27 @@ pub struct Entry {
     pub name: Name,
     pub bytes: Bytes,
     ghost small: { length bytes < 2 ^ 57 },
+}
+
+impl Entry {
+    /// A copy of the name and of the bytes. Its one refusal is want of memory.
+    pub fn copy(alloc: Global, name: &str, bytes: &[u8]) -> Result<Entry, NoMemory>
+        requires { length bytes.now < 2 ^ 57 }
+        ensures name { IfOk result (λ entry. entry.name ≡ name.now) }
+        ensures bytes { IfOk result (λ entry. entry.bytes ≡ bytes.now) }
+    {
+        Ok(Entry {
+            name: Name::copy(alloc, name)?,
+            bytes: Bytes::copy(alloc, bytes)?,
+        })
+    }
+
+    /// How many bytes there are.
+    pub fn size(&self) -> u64
+        ensures { result ≡ length self.now.bytes }
+    {
+        self.bytes.as_slice().len() as u64
+    }
 }
 
 /// Fills `into` with the bytes from place `at` on.

@@ -14,3 +14,6 @@ mod sure_source;
 pub use mem_source::MemSource;
 pub use source::{Source, SourceFault};
 pub use sure_source::SureSource;
+
+#[cfg(test)]
+mod tests;

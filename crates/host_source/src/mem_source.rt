@@ -1,12 +1,13 @@
 // A source in memory, for tests: it tells what it holds, and fails where it is told to.
-ghost use Rattle.std.specs.Prelude.{◌≡◌, ◌^◌, ◌<◌, ◌++◌, [], length, None, OnOk, OnErr, position};
-ghost use Rattle.host_source.specs.Source.{told, open_nature, holding, IsDetached};
+ghost use Rattle.std.specs.Prelude.{◌≡◌, ◌^◌, ◌<◌, ℕ, [], length, None, OnOk, OnErr, position};
+ghost use Rattle.host_source.specs.Source.{told, HoldsNothing, AddsName, IsDetached};
+ghost use Rattle.host_source.specs.Calls.{with_failing};
 ghost use Rattle.host_source.specs.Entries.{is_named, AreApart, PointInside};
 
 use crate::calls::Calls;
 use crate::entry::{Entry, copy_from};
 use crate::{Source, SourceFault};
-use byte_kit::{Bytes, Name, NoMemory};
+use byte_kit::NoMemory;
 use std::alloc::Global;
 
 /// Names with bytes, held in memory. Every name may be asked for; to attach one that isn't there is a
@@ -26,7 +27,7 @@ impl MemSource {
 
     /// A source that holds no name. It takes no memory.
     pub fn make(alloc: Global) -> MemSource
-        ensures empty { mem_nature result ≡ open_nature (λ _. None) }
+        ensures empty { HoldsNothing (mem_nature result) }
         ensures detached { IsDetached (mem_slots result) }
         ensures calls { mem_calls result ≡ record { made = 0; failing = []; faults = 0 } }
     {
@@ -42,28 +43,23 @@ impl MemSource {
     pub fn add(&mut self, name: &str, bytes: &[u8]) -> Result<(), NoMemory>
         requires absent { told (mem_nature self.old) name.now ≡ None }
         requires small { length bytes.now < 2 ^ 57 }
-        ensures added { OnOk result (mem_nature self.new ≡ holding name.now bytes.now (mem_nature self.old)) }
+        ensures added { OnOk result (AddsName (mem_nature self.old) (mem_nature self.new) name.now bytes.now) }
         ensures refused { OnErr result (mem_nature self.new ≡ mem_nature self.old) }
-        ensures slots { mem_slots self.new ≡ mem_slots self.old }
+        ensures slots { (slot : ℕ) → mem_slots self.new slot ≡ mem_slots self.old slot }
         ensures calls { mem_calls self.new ≡ mem_calls self.old }
     {
-        let entry = Entry {
-            name: Name::copy(self.alloc, name)?,
-            bytes: Bytes::copy(self.alloc, bytes)?,
-        };
+        let entry = Entry::copy(self.alloc, name, bytes)?;
         self.entries.push(entry)?;
         Ok(())
     }
 
     /// Names further calls that are to fail. Calls of `attach` and `read_at` are counted together from
-    /// 0, from the first call that the source was given. Refused for want of memory, it names none.
+    /// 0, and the number stands still at 2^64 - 1. Refused for want of memory, it names none.
     pub fn fail_calls(&mut self, calls: &[u64]) -> Result<(), NoMemory>
-        ensures named { OnOk result (mem_calls self.new ≡ record (mem_calls self.old) {
-          failing = (mem_calls self.old).failing ++ calls.now;
-        }) }
+        ensures named { OnOk result (mem_calls self.new ≡ with_failing (mem_calls self.old) calls.now) }
         ensures refused { OnErr result (mem_calls self.new ≡ mem_calls self.old) }
         ensures nature { mem_nature self.new ≡ mem_nature self.old }
-        ensures slots { mem_slots self.new ≡ mem_slots self.old }
+        ensures slots { (slot : ℕ) → mem_slots self.new slot ≡ mem_slots self.old slot }
     {
         self.calls.fail(calls)
     }
@@ -90,7 +86,7 @@ impl Source for MemSource {
             return Err(self.calls.fault());
         };
         self.places[slot as usize] = Some(place);
-        Ok(self.entries[place].bytes.as_slice().len() as u64)
+        Ok(self.entries[place].size())
     }
 
     fn read_at(&mut self, slot: u32, at: u64, into: &mut [u8]) -> Result<(), SourceFault> {

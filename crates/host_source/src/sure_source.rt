@@ -1,6 +1,6 @@
 // A source of one name, whose calls succeed.
 ghost use Rattle.std.specs.Prelude.{◌≡◌, ◌^◌, ◌<◌, length};
-ghost use Rattle.host_source.specs.Source.{sole_nature, IsDetached};
+ghost use Rattle.host_source.specs.Source.{HoldsOnly, IsDetached};
 
 use crate::entry::copy_from;
 use crate::{Source, SourceFault};
@@ -20,7 +20,7 @@ impl<'a> SureSource<'a> {
     /// The source of these bytes under this name.
     pub fn of(name: &'a str, bytes: &'a [u8]) -> SureSource<'a>
         requires { length bytes.now < 2 ^ 57 }
-        ensures nature { sure_nature result ≡ sole_nature name.now bytes.now }
+        ensures nature { HoldsOnly (sure_nature result) name.now bytes.now }
         ensures detached { IsDetached (sure_slots result) }
     {
         SureSource {

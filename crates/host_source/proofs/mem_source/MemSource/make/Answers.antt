@@ -1,4 +1,4 @@
-use Rattle.std.proofs.Common.{None, Some, sym, ◌∙◌}
+use Rattle.std.proofs.Common.{None, sym, ◌∙◌}
 use Rattle.std.proofs.lemmas.Option.{none-some}
 use Rattle.host_source.proofs.SlotLemmas.{get_or_blank}
 use Rattle.host_source.proofs.mem_source.MemSource.make.Goals as goal

@@ -1,4 +1,3 @@
-use Rattle.std.proofs.Common.{ℕ, ◌<◌, length, arith, sym, ◌∙◌, rules}
 use Rattle.host_source.proofs.EntryLemmas.{reads}
 use Rattle.host_source.proofs.mem_source.MemSourceSource.read_at.Goals as goal
 
