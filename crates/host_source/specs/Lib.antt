@@ -1,1 +1,5 @@
+pub mod Calls
+pub mod Entries
+pub mod MemSource
 pub mod Source
+pub mod SureSource

@@ -1,5 +1,5 @@
 -- A source: bytes under names, of which some are attached to numbered slots.
-use Rattle.std.specs.Prelude.{◌≡◌, ◌≢◌, ℕ, ◌+◌, ◌^◌, ◌<◌, ◌≤◌, Bool, List, length, take, drop, Option, Some, None, IsSome, IsSomeAnd, IfSome, option_and_then}
+use Rattle.std.specs.Prelude.{◌≡◌, ◌≢◌, ℕ, ◌+◌, ◌^◌, ◌<◌, ◌≤◌, ◌↔◌, Bool, IsTrue, List, length, take, drop, Option, Some, None, IsSome, IsSomeAnd, IfSome, option_and_then}
 use Rattle.byte_kit.specs.Places.{put}
 
 -- what a slot has attached: a name, and how many bytes it holds
@@ -38,3 +38,22 @@ IsWithin slots slot at count = IsSomeAnd (slots slot) (λ s. at + count ≤ s.si
 -- the bytes read are those of the slot from the place on, where the source tells them
 abbrev pub Reads : SourceNature → (ℕ → Option Slot) → ℕ → ℕ → List ℕ → Type 0
 Reads nature slots slot at read = IfSome (told_at nature slots slot) (λ bytes. read ≡ take (length read) (drop at bytes))
+
+-- every name may be asked for
+abbrev pub MayAttachAll : SourceNature → Type 0
+MayAttachAll nature = (name : List ℕ) → IsTrue (nature.may_attach name)
+
+-- no name is there
+abbrev pub HoldsNothing : SourceNature → Type 0
+HoldsNothing nature = (name : List ℕ) → told nature name ≡ None
+
+-- the name holds these bytes, and every other name holds what it held
+pub record AddsName (old new : SourceNature) (name bytes : List ℕ) : Type 0 where
+  pub added : told new name ≡ Some bytes
+  pub others : (other : List ℕ) → other ≢ name → told new other ≡ told old other
+
+-- the name holds these bytes, and it is the one name that is there and that may be asked for
+pub record HoldsOnly (nature : SourceNature) (name bytes : List ℕ) : Type 0 where
+  pub holds : told nature name ≡ Some bytes
+  pub others : (other : List ℕ) → other ≢ name → told nature other ≡ None
+  pub asked : (other : List ℕ) → IsTrue (nature.may_attach other) ↔ (other ≡ name)

@@ -5,6 +5,15 @@
 //! of faults rose.
 #![tactic(auto)]
 
+mod calls;
+mod entry;
+mod mem_source;
 mod source;
+mod sure_source;
 
+pub use mem_source::MemSource;
 pub use source::{Source, SourceFault};
+pub use sure_source::SureSource;
+
+#[cfg(test)]
+mod tests;

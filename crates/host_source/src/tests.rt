@@ -1,0 +1,109 @@
+ghost use Rattle.std.specs.Prelude.{◌≡◌, ◌+◌, ◌<◌, ◌≤◌, length, take, drop, None, IsTrue, IfSome, IfOk};
+ghost use Rattle.host_source.specs.Source.{told};
+
+use crate::{MemSource, Source, SourceFault, SureSource};
+use std::test::Fail;
+use std::thread::{self, Threads};
+
+// The size of what the name holds. Where `into` fits in behind place `at`, it is filled from there on.
+fn read_from<S: Source>(
+    source: &mut S,
+    slot: u32,
+    name: &str,
+    at: u64,
+    into: &mut [u8],
+) -> Result<u64, SourceFault>
+    requires below { slot < 64 }
+    requires free { S.slots source.old slot ≡ None }
+    requires asked { IsTrue ((S.nature source.old).may_attach name.now) }
+    ensures size { IfOk result (λ size. IfSome (told (S.nature source.old) name.now) (λ bytes. size ≡ length bytes)) }
+    ensures read { IfOk result (λ size. at + length into.old ≤ size
+        → IfSome (told (S.nature source.old) name.now) (λ bytes. into.new ≡ take (length into.new) (drop at bytes))) }
+{
+    let size = source.attach(slot, name)?;
+    if at <= size && into.len() as u64 <= size - at {
+        source.read_at(slot, at, into)?;
+    }
+    Ok(size)
+}
+
+// Attaches the name to slot 0, and says whether it was refused.
+fn is_refused<S: Source>(source: &mut S, name: &str) -> bool
+    requires free { S.slots source.old 0 ≡ None }
+    requires asked { IsTrue ((S.nature source.old).may_attach name.now) }
+    ensures free { IsTrue result → S.slots source.new 0 ≡ None }
+    ensures same { S.nature source.new ≡ S.nature source.old }
+{
+    source.attach(0, name).is_err()
+}
+
+// Attaches the name to slot 0 and reads its first bytes. Whether each call failed at first, and then worked.
+fn works_at_the_second_try<S: Source>(source: &mut S, name: &str, into: &mut [u8]) -> bool
+    requires free { S.slots source.old 0 ≡ None }
+    requires asked { IsTrue ((S.nature source.old).may_attach name.now) }
+{
+    if !is_refused(source, name) {
+        return false;
+    }
+    let Ok(size) = source.attach(0, name) else {
+        return false;
+    };
+    if size < into.len() as u64 || source.read_at(0, 0, into).is_ok() {
+        return false;
+    }
+    source.read_at(0, 0, into).is_ok()
+}
+
+// Hands each source to a thread.
+fn hand_out<R: Threads + Sync, S: Source + Send + Drop>(rt: &R, sources: &mut Vec<S>) {
+    thread::for_each_mut(rt, sources.as_mut_slice(), 2, &|_, _: &mut S| {});
+}
+
+#[test]
+fn attach_gives_the_size_and_a_read_in_the_middle_its_bytes(rt: HostRuntime) -> Result<(), Fail> {
+    let mut source = MemSource::make(rt.alloc());
+    source.add("note.txt", b"")?;
+    source.add("disk.raw", b"0123456789")?;
+    let mut into = [b'x'; 4];
+    assert_eq!(rt; read_from(&mut source, 63, "disk.raw", 3, &mut into)?, 10);
+    assert_eq!(rt; into, *b"3456");
+
+    let mut sure = SureSource::of("disk.raw", b"abcdefgh");
+    assert_eq!(rt; read_from(&mut sure, 63, "disk.raw", 4, &mut into)?, 8);
+    assert_eq!(rt; into, *b"efgh");
+    Ok(())
+}
+
+#[test]
+fn a_missing_name_is_a_fault_and_leaves_the_slot_free(rt: HostRuntime) -> Result<(), Fail> {
+    let mut source = MemSource::make(rt.alloc());
+    source.add("disk.raw", b"0123")?;
+    assert!(rt; is_refused(&mut source, "disk.ra"));
+    let mut into = [b'x'; 2];
+    assert_eq!(rt; read_from(&mut source, 0, "disk.raw", 2, &mut into)?, 4);
+    assert_eq!(rt; into, *b"23");
+    Ok(())
+}
+
+#[test]
+fn the_named_calls_fail_and_the_next_one_works(rt: HostRuntime) -> Result<(), Fail> {
+    let mut source = MemSource::make(rt.alloc());
+    source.add("disk.raw", b"0123456789")?;
+    source.fail_calls(&[2])?;
+    source.fail_calls(&[7, 0])?;
+    let mut into = [b'x'; 4];
+    assert!(rt; works_at_the_second_try(&mut source, "disk.raw", &mut into));
+    assert_eq!(rt; into, *b"0123");
+    Ok(())
+}
+
+#[test]
+fn sources_can_be_handed_to_threads(rt: HostRuntime) -> Result<(), Fail> {
+    let alloc = rt.alloc();
+    hand_out(&rt, &mut vec![in alloc; MemSource::make(alloc)]?);
+    hand_out(
+        &rt,
+        &mut vec![in alloc; SureSource::of("a", b"b"), SureSource::of("c", b"d")]?,
+    );
+    Ok(())
+}
