@@ -5,6 +5,15 @@
 //! faults rose.
 #![tactic(auto)]
 
+mod content;
 mod disk;
+mod medium;
+mod mem_disk;
+mod sure_disk;
 
 pub use disk::{Disk, DiskFault};
+pub use mem_disk::MemDisk;
+pub use sure_disk::SureDisk;
+
+#[cfg(test)]
+mod tests;

@@ -1,0 +1,13 @@
+-- What a disk in memory that never fails is.
+use Rattle.std.specs.Prelude.{Bool}
+use Rattle.host_disk.specs.Files.{Files}
+use Rattle.host_disk.specs.Contents.{contents}
+use Rattle.host_disk.specs.declared.sure_disk.SureDisk.{SureDisk}
+
+-- its files
+abbrev pub sure_files : SureDisk → Files
+sure_files disk = contents disk.medium
+
+-- whether it was mounted
+abbrev pub sure_mounted : SureDisk → Bool
+sure_mounted disk = disk.is_mounted
