@@ -1,5 +1,6 @@
 //! Where a scan writes: the trait `Disk`, whose meaning is files as a read gives them and a count of
-//! faults, and disks in memory.
+//! faults, and two disks in memory: `SureDisk`, which never fails, and `MemDisk`, whose calls can be
+//! made to fail by their number.
 //!
 //! The promise: each call changes its own file alone, and a fault is answered only where the count of
 //! faults rose.

@@ -22,7 +22,7 @@ pub struct MemDisk {
 }
 
 impl MemDisk {
-    ghost use Rattle.host_disk.specs.MemDisk.{mem_files, mem_mounted, mem_calls, mem_writes, mem_faults, mem_fails, IsCall};
+    ghost use Rattle.host_disk.specs.MemDisk.{mem_files, mem_mounted, mem_calls, mem_writes, mem_faults, mem_fails, IsNoCall, IsCall};
     ghost use Rattle.host_disk.specs.Disk.{HasDiskCause};
 
     /// A disk that isn't mounted, with all files empty and no call so far. It takes no memory.
@@ -52,7 +52,8 @@ impl MemDisk {
         requires fresh { mem_mounted self.old ≡ false }
         ensures set { OnOk result (mem_files self.new ≡ put (mem_files self.old) file bytes.now) }
         ensures refused { OnErr result (mem_files self.new ≡ mem_files self.old) }
-        ensures same { self.new ≡ record self.old { medium = self.new.medium } }
+        ensures fails { mem_fails self.new ≡ mem_fails self.old }
+        ensures same { IsNoCall self.old self.new }
     {
         self.medium.set(file, bytes)
     }
@@ -85,7 +86,8 @@ impl MemDisk {
     pub fn fail_calls(&mut self, calls: &[u64]) -> Result<(), NoMemory>
         ensures added { OnOk result (mem_fails self.new ≡ mem_fails self.old ++ calls.now) }
         ensures refused { OnErr result (mem_fails self.new ≡ mem_fails self.old) }
-        ensures same { self.new ≡ record self.old { fails = self.new.fails } }
+        ensures files { mem_files self.new ≡ mem_files self.old }
+        ensures same { IsNoCall self.old self.new }
     {
         self.fails.extend_from_slice(calls)?;
         Ok(())
@@ -109,11 +111,10 @@ impl MemDisk {
 }
 
 impl Disk for MemDisk {
-    ghost use Rattle.host_disk.specs.Contents.{memory_nature};
     ghost use Rattle.host_disk.specs.Disk.{HasDiskCause};
-    ghost use Rattle.host_disk.specs.MemDisk.{mem_files, mem_mounted, mem_writes, mem_faults, is_due, counted, IsCall};
+    ghost use Rattle.host_disk.specs.MemDisk.{mem_nature, mem_files, mem_mounted, mem_writes, mem_faults, is_due, counted, IsCall};
 
-    ghost nature = { λ _. memory_nature };
+    ghost nature = { mem_nature };
 
     ghost mounted = { mem_mounted };
 

@@ -2,7 +2,6 @@
 ghost use Rattle.std.specs.Prelude.{◌≡◌, ℕ, ◌+◌, ◌^◌, ◌<◌, ◌≤◌, List, [], IsTrue, IsOk, IsOkAnd, IfOk, IfErr, OnOk, OnErr, true, false, length, take, drop};
 ghost use Rattle.byte_kit.specs.Places.{put};
 ghost use Rattle.host_disk.specs.Files.{written, OneTorn};
-ghost use Rattle.host_disk.specs.Contents.{memory_nature};
 
 use crate::medium::Medium;
 use crate::{Disk, DiskFault};
@@ -17,13 +16,13 @@ pub struct SureDisk {
 }
 
 impl SureDisk {
-    ghost use Rattle.host_disk.specs.SureDisk.{sure_files, sure_mounted};
+    ghost use Rattle.host_disk.specs.SureDisk.{sure_nature, sure_files, sure_mounted};
 
     /// A disk that isn't mounted, with all files empty. It takes no memory.
     pub fn make(alloc: Global) -> SureDisk
         ensures fresh { sure_mounted result ≡ false }
         ensures empty { sure_files result ≡ λ file. [] }
-        ensures any_name { (name : List ℕ) → IsTrue (memory_nature.may_mount name) }
+        ensures any_name { (name : List ℕ) → IsTrue ((sure_nature result).may_mount name) }
     {
         SureDisk {
             medium: Medium::make(alloc),
@@ -42,10 +41,9 @@ impl SureDisk {
 }
 
 impl Disk for SureDisk {
-    ghost use Rattle.host_disk.specs.Contents.{memory_nature};
-    ghost use Rattle.host_disk.specs.SureDisk.{sure_files, sure_mounted};
+    ghost use Rattle.host_disk.specs.SureDisk.{sure_nature, sure_files, sure_mounted};
 
-    ghost nature = { λ _. memory_nature };
+    ghost nature = { sure_nature };
 
     ghost mounted = { sure_mounted };
 
