@@ -17,13 +17,21 @@ push_empty_at (bytes ∷ held) (suc file) = push_empty_at held file
 pub contents-push_empty : (held : List (List ℕ)) → contents (held ++ [] ∷ []) ≡ contents held
 contents-push_empty held = fun_ext (push_empty_at held)
 
-set_at : (held : List (List ℕ)) (file : ℕ) (bytes : List ℕ) → file < length held → (k : ℕ) → get_or (set held file bytes) k [] ≡ (if k == file then bytes else get_or held k [])
+set_at :
+    (held : List (List ℕ)) (file : ℕ) (bytes : List ℕ) → file < length held → (k : ℕ)
+    → get_or (set held file bytes) k [] ≡ (if k == file then bytes else get_or held k [])
 set_at held file bytes lt k = grind (arith, nat_tests, common_steps)
 
 -- new bytes at a file's place in the list are its new bytes
-pub contents-set : (held grown : List (List ℕ)) (file : ℕ) (bytes : List ℕ) → contents grown ≡ contents held → file < length grown → contents (set grown file bytes) ≡ put (contents held) file bytes
-contents-set held grown file bytes same there = fun_ext (set_at grown file bytes there) ∙ ap (λ files. put files file bytes) same
+pub contents-set :
+    (held grown : List (List ℕ)) (file : ℕ) (bytes : List ℕ)
+    → contents grown ≡ contents held → file < length grown → contents (set grown file bytes) ≡ put (contents held) file bytes
+contents-set held grown file bytes same there =
+    fun_ext (set_at grown file bytes there) ∙ ap (λ files. put files file bytes) same
 
 -- what stands at a file's place in the list are its bytes
-pub is_content : (held grown : List (List ℕ)) (file : ℕ) (bytes : List ℕ) → contents grown ≡ contents held → file < length grown → bytes ≡ get_or grown file bytes → bytes ≡ contents held file
-is_content held grown file bytes same there at = at ∙ get_or_default grown file bytes [] there ∙ ap (λ files. files file) same
+pub is_content :
+    (held grown : List (List ℕ)) (file : ℕ) (bytes : List ℕ)
+    → contents grown ≡ contents held → file < length grown → bytes ≡ get_or grown file bytes → bytes ≡ contents held file
+is_content held grown file bytes same there at =
+    at ∙ get_or_default grown file bytes [] there ∙ ap (λ files. files file) same
