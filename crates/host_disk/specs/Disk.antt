@@ -1,5 +1,5 @@
 -- A disk: numbered files in a place that was mounted, and a count of faults.
-use Rattle.std.specs.Prelude.{ℕ, ◌+◌, ◌-◌, ◌^◌, ◌≤◌, Bool, List, IsTrue, Result, IfErr}
+use Rattle.std.specs.Prelude.{ℕ, ◌≤◌, Bool, List, IsTrue, Result, IfErr}
 use Rattle.byte_kit.specs.Counts.{Rose}
 use Rattle.host_disk.specs.declared.disk.DiskFault.{DiskFault}
 use Rattle.host_disk.specs.declared.disk.DiskFault.TheVariants.{Failed, NoMemory}

@@ -1,5 +1,5 @@
 -- The files of a disk, 0 to 63, by what a read gives of them, and what a call does to one.
-use Rattle.std.specs.Prelude.{◌≡◌, ℕ, ◌+◌, ◌≤◌, List, [], ◌++◌, length, take, drop, max}
+use Rattle.std.specs.Prelude.{◌≡◌, ℕ, ◌+◌, ◌≤◌, List, ◌++◌, length, take, drop, max}
 use Rattle.byte_kit.specs.Places.{put}
 
 -- the bytes of each file; a file that isn't there has none

@@ -1,2 +1,5 @@
 pub mod Files
 pub mod Disk
+pub mod Contents
+pub mod MemDisk
+pub mod SureDisk

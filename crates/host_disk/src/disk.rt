@@ -4,6 +4,7 @@ ghost use Rattle.byte_kit.specs.Places.{put};
 ghost use Rattle.host_disk.specs.Files.{Files, written, OneTorn, OnePartlyCut};
 ghost use Rattle.host_disk.specs.Disk.{DiskNature, HasDiskCause};
 
+use byte_kit::NoMemory;
 use thiserror::Error;
 
 /// Why a disk did not do what was asked of it.
@@ -15,6 +16,17 @@ pub enum DiskFault {
     /// The allocator had no room.
     #[error("no memory")]
     NoMemory,
+}
+
+impl From<NoMemory> for DiskFault {
+    ghost use Rattle.std.specs.Prelude.{◌≡◌};
+    ghost use Rattle.host_disk.specs.declared.disk.DiskFault.TheVariants.{NoMemory};
+
+    ghost from_gives = { λ _ fault. fault ≡ NoMemory };
+
+    fn from(_: NoMemory) -> Self {
+        DiskFault::NoMemory
+    }
 }
 
 /// Files 0 to 63 in a place that is mounted by a name. A file that isn't there has length 0, and each

@@ -1,0 +1,2 @@
+mod ContentsLemmas
+pub mod NotDone
