@@ -1,0 +1,73 @@
+//! The program `triage`. `main` makes a source over real files and a disk over a real folder, calls
+//! `triage_run::triage`, and ends with the number of its status. Nothing is printed.
+#![tactic(auto)]
+
+ghost use Rattle.std.specs.Prelude.{◌<◌, ◌^◌, length, vec_len, IfOk};
+
+mod file_source;
+mod folder_disk;
+
+use byte_kit::NoMemory;
+use file_source::FileSource;
+use folder_disk::FolderDisk;
+use std::process::ExitCode;
+use std::{env, io};
+use triage_run::{Status, triage};
+
+/// The exit status where a word is no text, or where there are more words than can be numbered.
+const BAD_WORDS: u8 = 2;
+
+/// The most words that can be numbered.
+const WORDS_MOST: usize = (1 << 32) - 1;
+
+fn main(rt: HostRuntime) -> ExitCode {
+    let status = match words_of(&rt) {
+        Ok(words) => scan(&rt, words.as_slice()),
+        Err(status) => status,
+    };
+    ExitCode::from(status)
+}
+
+// The words behind the program's name, or the exit status where there are none to be had.
+fn words_of(rt: &HostRuntime) -> Result<Vec<String>, u8>
+    ensures { IfOk result (λ words. vec_len words < 2 ^ 32) }
+{
+    let args = match env::args(rt) {
+        Ok(args) => args,
+        Err(error) if error.kind() == io::ErrorKind::OutOfMemory => {
+            return Err(Status::NoMemory.number());
+        }
+        Err(_) => return Err(BAD_WORDS),
+    };
+    let mut words = Vec::new(rt.alloc());
+    for word in args.skip(1) {
+        if words.len() >= WORDS_MOST {
+            return Err(BAD_WORDS);
+        }
+        if words.push(word).is_err() {
+            return Err(Status::NoMemory.number());
+        }
+    }
+    Ok(words)
+}
+
+// Does what the words say over real files, and answers the exit status.
+fn scan(rt: &HostRuntime, words: &[String]) -> u8
+    requires { length words.now < 2 ^ 32 }
+{
+    match outcome_of(rt, words) {
+        Ok(status) => status.number(),
+        Err(NoMemory) => Status::NoMemory.number(),
+    }
+}
+
+// How the call ends. What was made for it wants memory at the worst.
+fn outcome_of(rt: &HostRuntime, words: &[String]) -> Result<Status, NoMemory>
+    requires { length words.now < 2 ^ 32 }
+{
+    let alloc = rt.alloc();
+    let mut sources = Vec::new(alloc);
+    sources.push(FileSource::make(alloc, rt.clone()?))?;
+    let disk = FolderDisk::make(alloc, rt.clone()?);
+    Ok(triage(alloc, words, sources, disk).status)
+}
