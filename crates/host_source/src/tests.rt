@@ -1,5 +1,5 @@
 ghost use Rattle.std.specs.Prelude.{◌≡◌, ◌+◌, ◌<◌, ◌≤◌, length, take, drop, None, IsTrue, IfSome, IfOk};
-ghost use Rattle.host_source.specs.Source.{told};
+ghost use Rattle.host_source.specs.Source.{IsDetached, MayAttachAll, told};
 
 use crate::{MemSource, Source, SourceFault, SureSource};
 use std::test::Fail;
@@ -39,8 +39,8 @@ fn is_refused<S: Source>(source: &mut S, name: &str) -> bool
 
 // Attaches the name to slot 0 and reads its first bytes. Whether each call failed at first, and then worked.
 fn works_at_the_second_try<S: Source>(source: &mut S, name: &str, into: &mut [u8]) -> bool
-    requires free { S.slots source.old 0 ≡ None }
-    requires asked { IsTrue ((S.nature source.old).may_attach name.now) }
+    requires detached { IsDetached (S.slots source.old) }
+    requires asked { MayAttachAll (S.nature source.old) }
 {
     if !is_refused(source, name) {
         return false;
