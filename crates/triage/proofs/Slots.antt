@@ -29,7 +29,7 @@ added_at (p ∷ parts) part free slot =
     let first = no_first (nat_eq part.slot p.slot) (record { name = p.name; size = p.size }) (slots_of parts part.slot) free in
     ap (λ (rest : Option Slot). cond (nat_eq slot p.slot) (Some (record { name = p.name; size = p.size })) rest) (added_at parts part first.1 slot)
     ∙ swapped (nat_eq slot p.slot) (nat_eq slot part.slot) (Some (record { name = p.name; size = p.size })) (Some (record { name = part.name; size = part.size })) (slots_of parts slot)
-        (apart slot p.slot part.slot first.0)
+    (apart slot p.slot part.slot first.0)
 
 pub slots_of-add : (parts : List Part) (part : Part) → slots_of parts part.slot ≡ None →
     slots_of (parts ++ part ∷ []) ≡ put (slots_of parts) part.slot (Some (record { name = part.name; size = part.size }))

@@ -52,8 +52,8 @@ fn open<R: Files<File = File>>(rt: &R, name: &str) -> io::Result<(File, u64)> {
     Ok((file, size))
 }
 
-// Fills `into` from a place of the file on. A file that ends before is an error.
-fn read_part(mut file: &File, at: u64, into: &mut [u8]) -> io::Result<()> {
+/// Fills `into` with the file's bytes from place `at` on. A file that ends before is an error.
+pub fn read_part(mut file: &File, at: u64, into: &mut [u8]) -> io::Result<()> {
     file.seek(SeekFrom::Start(at))?;
     file.read_exact(into)
 }

@@ -6,6 +6,8 @@ ghost use Rattle.std.specs.Prelude.{◌<◌, ◌^◌, length, vec_len, IfOk};
 
 mod file_source;
 mod folder_disk;
+#[cfg(test)]
+mod tests;
 
 use byte_kit::NoMemory;
 use file_source::FileSource;

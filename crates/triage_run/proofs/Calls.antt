@@ -1,16 +1,15 @@
 -- From one part and one source to the words and the sources of a call.
-use Rattle.std.proofs.Common.{◌≡◌, ◌⊎◌, inl, inr, ◌∙◌, ℕ, ◌+◌, ◌<◌, ◌≤◌, List, [], ◌∷◌, ◌++◌, length, map, refl, sym, ap, subst, arith, append-nil, Option, Some, None, Result, Ok, Err, IsOkAnd, option_map}
+use Rattle.std.proofs.Common.{◌≡◌, inl, inr, ℕ, ◌<◌, List, [], ◌∷◌, ◌++◌, length, map, refl, sym, ap, subst, arith, append-nil, Option, Some, None, Result, Ok, Err, option_map}
 use Rattle.std.specs.Option.{option_and_then}
 use Rattle.std.specs.Prelude.{slice_index_or, slice_set, String}
 use Rattle.std.specs.String.{string_bytes}
 use Rattle.host_source.specs.Source.{SourceNature, Slot, told}
-use Rattle.triage_run.specs.declared.scan.TheConstants.{IMAGE_MOST}
 use Rattle.triage_run.specs.declared.status.Status.{Status}
 use Rattle.triage_run.specs.declared.status.Status.TheVariants.{Done, Usage, ReadFault, DiskFault, NoMemory, NotYet}
 use Rattle.triage_run.specs.declared.status.Unbuilt.TheVariants.{Parts, Size}
 use Rattle.triage_run.specs.declared.words.BadWord.{BadWord}
 use Rattle.triage_run.specs.Case.{joined}
-use Rattle.triage_run.specs.Outcome.{Pairwise, SomePair, KeepsSource, image_named, image_told, first_slot, SourceRose, IsImageSize, IsOnePart, IsManyParts, HasCauses, IsExact, IsComplete}
+use Rattle.triage_run.specs.Outcome.{Pairwise, image_named, image_told, first_slot, SourceRose, IsImageSize, IsOnePart, HasCauses, IsExact, IsComplete}
 use Rattle.triage_run.specs.Part.{IsTooLarge}
 use Rattle.triage_run.specs.Status.{IsOrEarlier}
 use Rattle.triage_run.specs.Words.{ScanWords}
@@ -77,5 +76,5 @@ pub complete_of_first : {S : Type 0} (nature : S → SourceNature) (slots : S �
 complete_of_first nature slots faults words disk_rose status [] x y some is complete = absurd (omega (arith, some))
 complete_of_first nature slots faults words disk_rose status (z ∷ xs) x y some is complete =
     let first : IsComplete words (image_named (told (nature z)) words) (slots y 0) (Rose (faults z) (faults y)) disk_rose status =
-        subst (λ w. IsComplete words (image_named (told (nature w)) words) (slots y 0) (Rose (faults w) (faults y)) disk_rose status) is complete in
+    subst (λ w. IsComplete words (image_named (told (nature w)) words) (slots y 0) (Rose (faults w) (faults y)) disk_rose status) is complete in
     λ one small s d. first one small (λ r. s (inl r)) d

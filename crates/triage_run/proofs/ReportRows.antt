@@ -1,5 +1,5 @@
 -- Worked rows of whole report files, as laws that compute.
-use Rattle.std.specs.Prelude.{◌≡◌, ℕ, List, [], ◌∷◌, ◌++◌, codes, Option, Some, None, refl, replicate}
+use Rattle.std.specs.Prelude.{◌≡◌, ℕ, List, [], codes, Option, Some, None, refl}
 use Rattle.scan_set.specs.declared.plan.ScanPlan.{ScanPlan}
 use Rattle.scan_set.proofs.Shown.{shown}
 use Rattle.feature_escape.specs.Escape.{escape_of, unescape_lenient_of}
@@ -7,7 +7,7 @@ use Rattle.stop_lists.specs.Lists.{entries_of, class_under}
 use Rattle.feature_file.specs.Files.{report_files}
 use Rattle.feature_file.specs.FeatureFile.{header_of, line_of, file_text}
 use Rattle.count_histogram.specs.Histogram.{rows_of, row_line_of, histogram_text}
-use Rattle.triage_run.specs.Case.{Case, classed_of, report, case_of, no_match}
+use Rattle.triage_run.specs.Case.{classed_of, report, case_of, no_match}
 
 -- every scanner but that of words, as a scan has them by default
 abbrev default_plan : ScanPlan

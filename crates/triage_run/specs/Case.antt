@@ -1,5 +1,5 @@
 -- What a scan is of, and the report that it leaves.
-use Rattle.std.specs.Prelude.{◌≡◌, ℕ, ◌++◌, ◌==◌, ◌/◌, not, ◌||◌, Bool, IsTrue, List, [], ◌∷◌, map, filter, Option, Some, None, IfSome, option_map, option_and_then, if◌then◌else◌}
+use Rattle.std.specs.Prelude.{◌≡◌, ℕ, ◌++◌, ◌==◌, ◌/◌, not, ◌||◌, IsTrue, List, [], ◌∷◌, map, filter, Option, Some, None, IfSome, option_map, option_and_then, if◌then◌else◌}
 use Rattle.forensic_path.specs.declared.feature.Classed.{Classed}
 use Rattle.host_disk.specs.Files.{Files}
 use Rattle.host_disk.specs.Disk.{DiskNature}

@@ -1,5 +1,5 @@
 -- What a call of the program leaves, when each refusal comes, and when it is done.
-use Rattle.std.specs.Prelude.{◌≡◌, ◌⊎◌, Ok, Err, ℕ, ◌<◌, ◌≤◌, ◌-◌, ◌^◌, Bool, true, false, IsTrue, List, [], ◌∷◌, length, Option, None, Some, IfSome, IsSomeAnd, MatchOption, Result, IfOk, IsOk, IsOkAnd, IfErr}
+use Rattle.std.specs.Prelude.{◌≡◌, ◌⊎◌, Ok, Err, ℕ, ◌<◌, ◌≤◌, List, [], ◌∷◌, length, Option, None, IsSomeAnd, MatchOption, Result, IfOk, IsOk, IsOkAnd, IfErr}
 use Rattle.std.specs.List.{All, AllPass}
 use Rattle.byte_kit.specs.Counts.{Rose}
 use Rattle.host_source.specs.Source.{SourceNature, Slot, IsDetached, told}
@@ -12,7 +12,7 @@ use Rattle.triage_run.specs.declared.status.Unbuilt.{Unbuilt}
 use Rattle.triage_run.specs.declared.status.Unbuilt.TheVariants.{Parts, Size}
 use Rattle.triage_run.specs.declared.words.BadWord.{BadWord}
 use Rattle.triage_run.specs.Case.{joined, LeavesReport}
-use Rattle.triage_run.specs.Status.{IfDone, IfUsage, IfReadFault, IfDiskFault, IfNotYet, IsOrEarlier, IsAheadOfAttach, IsAheadOfMount, IsDoneOrNoMemory}
+use Rattle.triage_run.specs.Status.{IfDone, IfUsage, IfReadFault, IfDiskFault, IfNotYet, IsOrEarlier, IsDoneOrNoMemory}
 use Rattle.triage_run.specs.Words.{ScanWords}
 
 -- ---- lists of sources, before a call and after it

@@ -1,5 +1,5 @@
 -- The command that a list of words gives, or the first bad word.
-use Rattle.std.specs.Prelude.{ℕ, ◌+◌, ◌-◌, ◌==◌, not, nat_lt, nat_le, Bool, false, List, [], ◌∷◌, length, take, map, codes, slice_index, slice_index_or, String, Result, Ok, Err, if◌then◌else◌}
+use Rattle.std.specs.Prelude.{ℕ, ◌+◌, ◌-◌, ◌==◌, not, nat_lt, Bool, false, List, [], ◌∷◌, length, take, map, codes, slice_index, slice_index_or, String, Result, Ok, Err, if◌then◌else◌}
 use Rattle.std.specs.String.{string_bytes}
 use Rattle.std.specs.Str.{bytes_eq}
 use Rattle.triage_run.specs.declared.words.BadWord.{BadWord}

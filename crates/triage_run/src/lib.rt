@@ -14,3 +14,6 @@ pub use call::{Outcome, triage};
 pub use report::URL_FILE;
 pub use scan::IMAGE_MOST;
 pub use status::{ReadPlace, Status, Unbuilt, Why};
+
+#[cfg(test)]
+mod tests;

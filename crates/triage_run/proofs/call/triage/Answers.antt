@@ -1,4 +1,4 @@
-use Rattle.std.proofs.Common.{◌≡◌, ◌≤◌, ◌<◌, length, refl, arith}
+use Rattle.std.proofs.Common.{refl, arith}
 use Rattle.triage_run.specs.Outcome.{KeepsSource}
 use Rattle.triage_run.proofs.Calls.{first_changed, complete_of_causes, complete_of_first}
 use Rattle.triage_run.proofs.call.triage.Goals as goal

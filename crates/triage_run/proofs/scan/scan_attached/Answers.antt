@@ -1,4 +1,4 @@
-use Rattle.std.proofs.Common.{◌≡◌, ◌∙◌, ap}
+use Rattle.std.proofs.Common.{◌∙◌, ap}
 use Rattle.triage_run.specs.UrlFile.{url_file}
 use Rattle.triage_run.proofs.UrlReport.{leaves_report}
 use Rattle.triage_run.proofs.scan.scan_attached.Goals as goal

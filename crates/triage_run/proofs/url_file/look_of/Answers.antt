@@ -1,4 +1,4 @@
-use Rattle.std.proofs.Common.{◌≡◌, ◌∙◌, ◌-◌, ℕ, ap, length, take, drop, min}
+use Rattle.std.proofs.Common.{◌∙◌, ◌-◌, ℕ, ap, take, drop}
 use Rattle.std.proofs.lemmas.List.{take_min}
 use Rattle.sbuf_nest.specs.Around.{look_at}
 use Rattle.triage_run.proofs.Looks.{same_around}

@@ -1,4 +1,4 @@
-use Rattle.std.proofs.Common.{◌≡◌, List, ℕ, length, take, get_or, sym, append-nil}
+use Rattle.std.proofs.Common.{sym, append-nil}
 use Rattle.feature_escape.specs.Escape.{escape_of, escaped}
 use Rattle.triage_run.proofs.Lists.{elements-more, appended}
 use Rattle.triage_run.proofs.url_file.push_escaped.Goals as goal

@@ -1,4 +1,4 @@
-use Rattle.std.proofs.Common.{rules, ◌≡◌, ◌∙◌, ◌<◌, ◌+◌, ◌++◌, List, ℕ, length, ap, sym, append_assoc, arith}
+use Rattle.std.proofs.Common.{◌≡◌, ◌∙◌, ◌++◌, ℕ, length, ap, arith}
 use Rattle.triage_run.specs.UrlFile.{url_header, lines_of, line_at, url_file}
 use Rattle.triage_run.proofs.Lists.{places-more, appended}
 use Rattle.triage_run.proofs.url_file.url_text.Goals as goal

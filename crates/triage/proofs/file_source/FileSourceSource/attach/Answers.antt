@@ -1,5 +1,4 @@
-use Rattle.std.proofs.Common.{◌≡◌, ◌∙◌, ◌<◌, arith, rules}
-use Rattle.triage.specs.Parts.{slots_of}
+use Rattle.std.proofs.Common.{arith}
 use Rattle.triage.proofs.Slots.{slots_of-add}
 use Rattle.triage.proofs.file_source.FileSourceSource.attach.Goals as goal
 
