@@ -1,3 +1,4 @@
 pub mod Classes
 pub mod Counts
+pub mod Numbers
 pub mod Places

@@ -1,18 +1,22 @@
 //! Bytes and numbers, as every crate of `triage` uses them: owned bytes and names that contracts see
-//! as lists, the classes of bytes, and decimals. Nothing here knows of images or features.
+//! as lists, the classes of bytes, numbers of two to eight bytes, and decimals. Nothing here knows of
+//! images or features.
 //!
-//! The promise: a class test is its class in `specs/Classes.antt`, a copy is the bytes that were
-//! copied, and a written decimal is the number's.
+//! The promise: a class test is its class in `specs/Classes.antt`, a number that is read or written is
+//! that of `specs/Numbers.antt`, a copy is the bytes that were copied, and a decimal is the number's,
+//! written and read. Readers, writers, class tests and decimals in place take no memory.
 #![tactic(auto)]
 
 mod classes;
 mod decimal;
 mod memory;
+mod numbers;
 mod text;
 
 pub use classes::{is_base64, is_digit, is_hex, is_host, is_letter, is_printable, is_url, is_word};
-pub use decimal::dec_write;
+pub use decimal::{dec_push, dec_read, dec_write};
 pub use memory::NoMemory;
+pub use numbers::{be16_at, be32_at, le16_at, le32_at, le64_at, put_le16, put_le32, put_le64};
 pub use text::{Bytes, Name, Names, Texts};
 
 #[cfg(test)]

@@ -1,6 +1,7 @@
 use crate::{
-    Bytes, Name, Names, Texts, dec_write, is_base64, is_digit, is_hex, is_host, is_letter,
-    is_printable, is_url, is_word,
+    Bytes, Name, Names, Texts, be16_at, be32_at, dec_push, dec_read, dec_write, is_base64,
+    is_digit, is_hex, is_host, is_letter, is_printable, is_url, is_word, le16_at, le32_at, le64_at,
+    put_le16, put_le32, put_le64,
 };
 use std::test::Fail;
 
@@ -62,5 +63,64 @@ fn copies_and_lists_keep_what_they_were_given(rt: HostRuntime) -> Result<(), Fai
     let items = names.items();
     assert_eq!(rt; items.len(), 1);
     assert_eq!(rt; items[0].as_str(), "disk.raw");
+    Ok(())
+}
+
+#[test]
+fn numbers_end_where_the_bytes_end(rt: HostRuntime) {
+    let bytes = [1, 2, 3, 4, 5, 6, 7, 248];
+    assert_eq!(rt; be16_at(&bytes, 0), Some(0x0102));
+    assert_eq!(rt; be16_at(&bytes, 6), Some(0x07f8));
+    assert_eq!(rt; le16_at(&bytes, 6), Some(0xf807));
+    assert_eq!(rt; be32_at(&bytes, 4), Some(0x0506_07f8));
+    assert_eq!(rt; le32_at(&bytes, 4), Some(0xf807_0605));
+    assert_eq!(rt; le64_at(&bytes, 0), Some(0xf807_0605_0403_0201));
+    // One byte short, and a place at the end, past it, and the last of all.
+    for at in [7, 8, 9, usize::MAX] {
+        assert_eq!(rt; be16_at(&bytes, at), None);
+        assert_eq!(rt; le16_at(&bytes, at), None);
+    }
+    for at in [5, 8, 9, usize::MAX] {
+        assert_eq!(rt; be32_at(&bytes, at), None);
+        assert_eq!(rt; le32_at(&bytes, at), None);
+    }
+    for at in [1, 8, 9, usize::MAX] {
+        assert_eq!(rt; le64_at(&bytes, at), None);
+    }
+    assert_eq!(rt; put_le16(0x0102), [2, 1]);
+    assert_eq!(rt; put_le32(0x0102_0304), [4, 3, 2, 1]);
+    assert_eq!(rt; put_le64(0x0102_0304_0506_0708), [8, 7, 6, 5, 4, 3, 2, 1]);
+}
+
+#[test]
+fn a_decimal_is_canonical_and_below_two_to_the_64(rt: HostRuntime) {
+    assert_eq!(rt; dec_read(b"0"), Some(0));
+    assert_eq!(rt; dec_read(b"7"), Some(7));
+    assert_eq!(rt; dec_read(b"1048577"), Some(1_048_577));
+    assert_eq!(rt; dec_read(b"18446744073709551615"), Some(u64::MAX));
+    let none = [
+        b"".as_slice(),
+        b"00",
+        b"01",
+        b"+1",
+        b"-1",
+        b" 1",
+        b"1 ",
+        b"1\xff",
+        b"0x1",
+        b"18446744073709551616",
+        b"100000000000000000000",
+    ];
+    for text in none {
+        assert_eq!(rt; dec_read(text), None);
+    }
+}
+
+#[test]
+fn a_pushed_decimal_stands_behind(rt: HostRuntime) -> Result<(), Fail> {
+    let mut into = Vec::from_slice(rt.alloc(), b"at ")?;
+    dec_push(0, &mut into)?;
+    dec_push(u64::MAX, &mut into)?;
+    assert_eq!(rt; into.as_slice(), b"at 018446744073709551615".as_slice());
     Ok(())
 }

@@ -81,7 +81,7 @@ impl Name {
 /// A list of names, in the order in which they were added.
 #[derive(Drop)]
 pub struct Names {
-    items: Vec<Name>,
+    names: Vec<Name>,
 }
 
 impl Model for Names {
@@ -89,7 +89,7 @@ impl Model for Names {
 
     ghost Value = { List (List ℕ) };
 
-    ghost view = { λ n. n.items.items };
+    ghost view = { λ n. n.names.items };
 }
 
 impl Names {
@@ -98,7 +98,7 @@ impl Names {
         ensures { result ≡ [] }
     {
         Names {
-            items: Vec::new(alloc),
+            names: Vec::new(alloc),
         }
     }
 
@@ -107,7 +107,7 @@ impl Names {
         ensures added { OnOk result (self.new ≡ self.old ++ item ∷ []) }
         ensures same { OnErr result (self.new ≡ self.old) }
     {
-        self.items.push(item)?;
+        self.names.push(item)?;
         Ok(())
     }
 
@@ -115,14 +115,14 @@ impl Names {
     pub fn items(&self) -> &[Name]
         ensures { result.now ≡ self.now }
     {
-        self.items.as_slice()
+        self.names.as_slice()
     }
 }
 
 /// A list of byte sequences, in the order in which they were added.
 #[derive(Drop)]
 pub struct Texts {
-    items: Vec<Bytes>,
+    texts: Vec<Bytes>,
 }
 
 impl Model for Texts {
@@ -130,7 +130,7 @@ impl Model for Texts {
 
     ghost Value = { List (List ℕ) };
 
-    ghost view = { λ t. t.items.items };
+    ghost view = { λ t. t.texts.items };
 }
 
 impl Texts {
@@ -139,7 +139,7 @@ impl Texts {
         ensures { result ≡ [] }
     {
         Texts {
-            items: Vec::new(alloc),
+            texts: Vec::new(alloc),
         }
     }
 
@@ -148,7 +148,7 @@ impl Texts {
         ensures added { OnOk result (self.new ≡ self.old ++ item ∷ []) }
         ensures same { OnErr result (self.new ≡ self.old) }
     {
-        self.items.push(item)?;
+        self.texts.push(item)?;
         Ok(())
     }
 
@@ -156,6 +156,6 @@ impl Texts {
     pub fn items(&self) -> &[Bytes]
         ensures { result.now ≡ self.now }
     {
-        self.items.as_slice()
+        self.texts.as_slice()
     }
 }

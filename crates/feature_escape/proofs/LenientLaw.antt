@@ -7,7 +7,7 @@ use Rattle.byte_kit.specs.Classes.{printable_class, hex_class}
 use Rattle.feature_escape.specs.Escape.{hex_capital, stands, escaped, escape_of, digit_worth, is_escape, unescape_lenient_of}
 
 -- a byte other than the backslash is read as itself, whatever follows it
-one_byte : (byte : ℕ) (text : List ℕ) → (byte == 92) ≡ false → unescape_lenient_of (byte ∷ text) ≡ byte ∷ unescape_lenient_of text
+pub one_byte : (byte : ℕ) (text : List ℕ) → (byte == 92) ≡ false → unescape_lenient_of (byte ∷ text) ≡ byte ∷ unescape_lenient_of text
 unfolding unescape_lenient_of
 one_byte byte [] other = refl
 one_byte byte (b ∷ []) other = refl
@@ -46,7 +46,7 @@ by_stands byte text small true is = one_byte byte text (no_backslash (printable_
 by_stands byte text small false is = one_escape byte text small
 
 -- what a byte is escaped as is read as the byte
-one_more : (byte : ℕ) (text : List ℕ) → byte < 256 → unescape_lenient_of (escaped byte ++ text) ≡ byte ∷ unescape_lenient_of text
+pub one_more : (byte : ℕ) (text : List ℕ) → byte < 256 → unescape_lenient_of (escaped byte ++ text) ≡ byte ∷ unescape_lenient_of text
 one_more byte text small = by_stands byte text small (stands byte) refl
 
 -- the escape of any bytes is read as these bytes

@@ -1,2 +1,5 @@
+pub mod Digits
 pub mod LenientLaw
 mod Rows
+pub mod Runs
+pub mod Strict

@@ -1,1 +1,3 @@
+mod OnePath
+mod Reading
 mod Rows

@@ -2,11 +2,24 @@
 //! a decoder and an offset for each buffer that was decoded on the way, as `100-BASE64-0`.
 //!
 //! These are the plain records that contracts and definitions speak of. `specs/PathText.antt` says
-//! which text a path has.
+//! which text a path has, and `specs/Grammar.antt` which paths are lawful.
+//!
+//! The promise: `path_text` writes the text of a path, and `path_read` gives each lawful path of at most
+//! seven steps back from its text. Of any other text it tells whether it is that of a longer path, and
+//! of how many steps.
 #![tactic(auto)]
 
+mod fault;
 mod feature;
 mod path;
+mod read;
+mod write;
 
+pub use fault::PathFault;
 pub use feature::{Class, Classed, Feature, Kind};
-pub use path::{Decoder, Path, Step, Steps};
+pub use path::{Decoder, MOST_STEPS, Path, Step, Steps};
+pub use read::path_read;
+pub use write::path_text;
+
+#[cfg(test)]
+mod tests;

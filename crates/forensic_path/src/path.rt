@@ -1,5 +1,12 @@
 // Where a feature stands.
+ghost use Rattle.std.specs.Prelude.{◌≡◌, [], ◌∷◌, ◌++◌, OnOk, OnErr};
+
+use byte_kit::NoMemory;
+use std::alloc::Global;
 use std::marker::Model;
+
+/// How many steps a path that is read may have.
+pub const MOST_STEPS: u64 = 7;
 
 /// What turned the bytes of one buffer into those of the next.
 #[derive(Clone, Copy, Debug, PartialEq, Eq)]
@@ -34,6 +41,33 @@ impl Model for Steps {
     ghost Value = { List Step };
 
     ghost view = { λ s. s.items.items };
+}
+
+impl Steps {
+    /// No steps.
+    pub fn make(alloc: Global) -> Steps
+        ensures { result ≡ [] }
+    {
+        Steps {
+            items: Vec::new(alloc),
+        }
+    }
+
+    /// Appends a step. Refused for want of memory, it leaves the steps as they were.
+    pub fn add(&mut self, item: Step) -> Result<(), NoMemory>
+        ensures added { OnOk result (self.new ≡ self.old ++ item ∷ []) }
+        ensures same { OnErr result (self.new ≡ self.old) }
+    {
+        self.items.push(item)?;
+        Ok(())
+    }
+
+    /// The steps, lent.
+    pub fn items(&self) -> &[Step]
+        ensures { result.now ≡ self.now }
+    {
+        self.items.as_slice()
+    }
 }
 
 /// An offset in the image, in bytes, and the steps from there.

@@ -1,4 +1,4 @@
 pub mod Around
 pub mod Edges
-pub mod Numbers
+pub mod Marks
 pub mod Turns

@@ -4,7 +4,7 @@ use Rattle.std.specs.List.{starts_with}
 use Rattle.std.specs.Option.{option_or}
 use Rattle.byte_kit.specs.Classes.{is_one_of}
 use Rattle.sbuf_nest.specs.Around.{Around}
-use Rattle.sbuf_nest.specs.Numbers.{le16, be16, le32}
+use Rattle.byte_kit.specs.Numbers.{le16, be16, le32}
 use Rattle.scan_exec.specs.declared.TheConstants.{ELF_SIZE, DOS_SIZE, PE_PLACE_MOST}
 
 -- what a header shows as text, and how many bytes it covers

@@ -3,7 +3,7 @@ use Rattle.std.specs.Prelude.{ℕ, ◌+◌, ◌*◌, ◌/◌, ◌%◌, ◌==◌,
 use Rattle.std.specs.List.{join_with_byte}
 use Rattle.byte_kit.specs.Classes.{is_one_of}
 use Rattle.sbuf_nest.specs.Around.{Around}
-use Rattle.sbuf_nest.specs.Numbers.{be16}
+use Rattle.byte_kit.specs.Numbers.{be16}
 use Rattle.scan_net.specs.declared.TheConstants.{ETHER_SIZE, ETHER_TYPE_IPV4}
 
 -- the two addresses of a header as text, in their order, and how many bytes the header has
