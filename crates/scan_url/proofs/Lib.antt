@@ -1,3 +1,6 @@
+pub mod Beside
+pub mod Hosts
 pub mod Prefixes
 pub mod Rows
 pub mod Runs
+pub mod Steps

@@ -1,9 +1,14 @@
 -- Worked rows of the shapes, as laws that compute.
-use Rattle.std.proofs.Common.{◌≡◌, ℕ, List, ◌∷◌, ◌++◌, refl, Option, Some, None, codes, replicate}
+use Rattle.std.proofs.Common.{◌≡◌, ℕ, true, false, List, [], ◌∷◌, ◌++◌, refl, Option, Some, None, codes, replicate}
 use Rattle.byte_kit.specs.Classes.{url_class, host_class}
+use Rattle.forensic_path.specs.declared.feature.Kind.{Kind}
+use Rattle.forensic_path.specs.declared.feature.Kind.TheVariants.{Url, Domain}
 use Rattle.sbuf_nest.specs.Around.{look_at}
+use Rattle.sbuf_nest.specs.Marks.{marks_of}
+use Rattle.sbuf_nest.specs.declared.mark.Mark.{Mark}
 use Rattle.scan_url.specs.Url.{scheme_of, url_of}
 use Rattle.scan_url.specs.Domain.{ends_with_scheme, domain_of}
+use Rattle.scan_url.specs.Marks.{url_marks}
 
 -- the URL that the text has at the place, and the domain
 url_in : List ℕ → ℕ → Option ℕ
@@ -84,3 +89,19 @@ a_host_at_its_limit = refl
 a_host_past_its_limit : domain_in (codes "ftp://a." ++ replicate 250 97 ++ codes ".b") 6 ≡ Some 252
 unfolding domain_in domain_of ends_with_scheme url_class host_class look_at
 a_host_past_its_limit = refl
+
+mark : Kind → ℕ → ℕ → Mark
+mark kind at extent = record { at = at; kind = kind; which = 0; extent = extent }
+
+the_marks_of_a_url_inside_a_url : marks_of (url_marks true true) (codes "http://a.b/?u=http://c.d/") 0 25
+    ≡ mark Url 0 25 ∷ mark Domain 7 3 ∷ mark Url 14 11 ∷ mark Domain 21 3 ∷ []
+unfolding mark marks_of url_of scheme_of url_class domain_of ends_with_scheme host_class look_at
+the_marks_of_a_url_inside_a_url = refl
+
+the_marks_of_places_behind_a_scheme : marks_of (url_marks true true) (codes "http://a.b/") 7 4 ≡ mark Domain 7 3 ∷ []
+unfolding mark marks_of url_of scheme_of url_class domain_of ends_with_scheme host_class look_at
+the_marks_of_places_behind_a_scheme = refl
+
+the_marks_of_the_kind_that_is_wanted : marks_of (url_marks true false) (codes "ftp://a.b") 0 9 ≡ mark Url 0 9 ∷ []
+unfolding mark marks_of url_of scheme_of url_class domain_of ends_with_scheme host_class look_at
+the_marks_of_the_kind_that_is_wanted = refl

@@ -1,2 +1,3 @@
 pub mod Url
 pub mod Domain
+pub mod Marks

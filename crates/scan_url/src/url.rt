@@ -53,7 +53,7 @@ fn scheme_len(bytes: &[u8]) -> Option<usize>
 }
 
 // The bytes begin with the word, which is in lower case, whatever the case of their letters.
-fn begins_with(bytes: &[u8], word: &[u8]) -> bool
+pub(crate) fn begins_with(bytes: &[u8], word: &[u8]) -> bool
     ensures { result ≡ starts_caseless word.now bytes.now }
 {
     for i in 0..word.len() {
