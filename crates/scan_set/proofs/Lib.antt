@@ -1,3 +1,2 @@
 mod Rows
 pub mod Shown
-pub mod UrlPlan

@@ -12,7 +12,7 @@ use std::path::{Path, PathBuf};
 use std::{fs, io};
 
 // The files that have names.
-const NAMES: [(u32, &str); 1] = [(1, "url.txt")];
+const NAMES: [(u32, &str); 2] = [(1, "url.txt"), (2, "domain.txt")];
 
 // The least length in bytes that a file of a disk can't have.
 const FILE_END: u64 = 1 << 62;

@@ -22,7 +22,12 @@ fn a_real_file_is_scanned_into_a_real_folder(rt: HostRuntime) -> Result<(), Fail
     let report = fs::read_to_string(&rt, "new/out/url.txt")?;
     assert_eq!(rt;
         report.as_str(),
-        "# triage feature file, format 1\n# file: url.txt\n# columns: path, feature, context\n4\thttp://example.com/a\thttp://example.com/a\n"
+        "# triage feature file, format 1\n# file: url.txt\n# columns: path, feature, context\n4\thttp://example.com/a\tsee http://example.com/a b\n"
+    );
+    let report = fs::read_to_string(&rt, "new/out/domain.txt")?;
+    assert_eq!(rt;
+        report.as_str(),
+        "# triage feature file, format 1\n# file: domain.txt\n# columns: path, feature, context\n11\texample.com\tsee http://example.com/a b\n"
     );
 
     // A shorter report replaces a longer one.

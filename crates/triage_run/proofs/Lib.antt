@@ -1,5 +1,6 @@
 pub mod Calls
+pub mod FeatureReport
+pub mod Lines
 pub mod Lists
-pub mod Looks
+pub mod Places
 mod ReportRows
-pub mod UrlReport

@@ -1,5 +1,5 @@
 -- Worked rows of whole report files, as laws that compute.
-use Rattle.std.specs.Prelude.{◌≡◌, ℕ, List, [], codes, Option, Some, None, refl}
+use Rattle.std.specs.Prelude.{◌≡◌, ℕ, List, [], ◌∷◌, ◌++◌, codes, Option, Some, None, refl}
 use Rattle.scan_set.specs.declared.plan.ScanPlan.{ScanPlan}
 use Rattle.scan_set.proofs.Shown.{shown}
 use Rattle.feature_escape.specs.Escape.{escape_of, unescape_lenient_of}
@@ -26,24 +26,39 @@ unfoldable built_file : List ℕ → ℕ → Option (List ℕ)
 unfolding shown escape_of entries_of class_under report_files header_of line_of file_text classed_of report
 built_file image number = report no_match (case_of image) number
 
-a_url_is_its_own_context : built_file (codes "see http://example.com/a b") 1
-    ≡ Some (codes "# triage feature file, format 1\n# file: url.txt\n# columns: path, feature, context\n4\thttp://example.com/a\thttp://example.com/a\n")
+a_url_with_its_context : built_file (codes "see http://example.com/a b") 1
+    ≡ Some (codes "# triage feature file, format 1\n# file: url.txt\n# columns: path, feature, context\n4\thttp://example.com/a\tsee http://example.com/a b\n")
 unfolding built_file
-a_url_is_its_own_context = refl
+a_url_with_its_context = refl
+
+a_domain_at_its_own_place : built_file (codes "see http://example.com/a b") 2
+    ≡ Some (codes "# triage feature file, format 1\n# file: domain.txt\n# columns: path, feature, context\n11\texample.com\tsee http://example.com/a b\n")
+unfolding built_file
+a_domain_at_its_own_place = refl
 
 an_empty_image_has_the_header_alone : built_file [] 1
     ≡ Some (codes "# triage feature file, format 1\n# file: url.txt\n# columns: path, feature, context\n")
 unfolding built_file
 an_empty_image_has_the_header_alone = refl
 
+a_context_is_cut_at_16_bytes : built_file (codes "http://a.b/?u=http://c.d/") 2
+    ≡ Some (codes "# triage feature file, format 1\n# file: domain.txt\n# columns: path, feature, context\n7\ta.b\thttp://a.b/?u=http://c.d/\n21\tc.d\t//a.b/?u=http://c.d/\n")
+unfolding built_file
+a_context_is_cut_at_16_bytes = refl
+
 a_url_in_a_url_has_a_line_of_its_own : built_file (codes "http://a.b/?u=http://c.d/") 1
-    ≡ Some (codes "# triage feature file, format 1\n# file: url.txt\n# columns: path, feature, context\n0\thttp://a.b/?u=http://c.d/\thttp://a.b/?u=http://c.d/\n14\thttp://c.d/\thttp://c.d/\n")
+    ≡ Some (codes "# triage feature file, format 1\n# file: url.txt\n# columns: path, feature, context\n0\thttp://a.b/?u=http://c.d/\thttp://a.b/?u=http://c.d/\n14\thttp://c.d/\thttp://a.b/?u=http://c.d/\n")
 unfolding built_file
 a_url_in_a_url_has_a_line_of_its_own = refl
 
-domains_are_not_written_yet : built_file (codes "see http://example.com/a b") 2 ≡ None
+a_context_is_escaped : built_file (9 ∷ codes "ftp://a" ++ 255 ∷ []) 1
+    ≡ Some (codes "# triage feature file, format 1\n# file: url.txt\n# columns: path, feature, context\n1\tftp://a\t\\x09ftp://a\\xFF\n")
 unfolding built_file
-domains_are_not_written_yet = refl
+a_context_is_escaped = refl
+
+packets_are_not_written_yet : built_file (codes "see http://example.com/a b") 3 ≡ None
+unfolding built_file
+packets_are_not_written_yet = refl
 
 -- ---- the whole report
 

@@ -9,6 +9,7 @@ use Rattle.stop_lists.specs.Lists.{classed_by}
 use Rattle.feature_file.specs.Files.{is_written, is_histogram}
 use Rattle.feature_file.specs.FeatureFile.{file_text}
 use Rattle.count_histogram.specs.Histogram.{histogram_text}
+use Rattle.triage_run.specs.declared.feature_text.TheConstants.{CONTEXT_BYTES}
 
 -- the input of a scan as plain data; a reading is what the text of a pattern was read as
 pub record Case (R : Type 0) : Type 0 where
@@ -49,11 +50,11 @@ joined told (name ∷ names) = option_and_then (λ bytes. option_map (λ rest. b
 
 -- the report files that a scan writes
 abbrev pub built : List ℕ
-built = 1 ∷ []
+built = 1 ∷ 2 ∷ []
 
--- the plan of every scan: the scanner of URLs in the image itself, without context
+-- the plan of every scan: the scanners of URLs and of domains in the image itself, with 16 bytes of context
 abbrev pub plan_built : ScanPlan
-plan_built = record { scanners = 1; depth = 0; mask = 0; word_min = 6; word_max = 14; context = 0; keywords = []; patterns = [] }
+plan_built = record { scanners = 3; depth = 0; mask = 0; word_min = 6; word_max = 14; context = CONTEXT_BYTES; keywords = []; patterns = [] }
 
 -- the case of an image
 abbrev pub case_of : List ℕ → Case (Unit {0})

@@ -2,6 +2,6 @@ pub mod Words
 pub mod Case
 pub mod Status
 pub mod Outcome
-pub mod UrlFile
+pub mod FeatureText
 pub mod Image
 pub mod Part

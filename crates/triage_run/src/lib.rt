@@ -3,15 +3,16 @@
 #![tactic(auto)]
 
 mod call;
+mod feature_text;
 mod image;
 mod report;
 mod scan;
 mod status;
-mod url_file;
 mod words;
 
 pub use call::{Outcome, triage};
-pub use report::URL_FILE;
+pub use feature_text::CONTEXT_BYTES;
+pub use report::{DOMAIN_FILE, URL_FILE};
 pub use scan::IMAGE_MOST;
 pub use status::{ReadPlace, Status, Unbuilt, Why};
 

@@ -7,10 +7,10 @@ ghost use Rattle.triage_run.specs.Outcome.{KeepsSource, KeepsDisk};
 ghost use Rattle.triage_run.specs.Status.{IfDone, IsAheadOfMount, IsOrEarlier};
 ghost use Rattle.triage_run.specs.Part.{HasPartCauses, IsTooLarge, IsScanEnd};
 
+use crate::feature_text::feature_texts;
 use crate::image::{ReadEnd, read_image};
-use crate::report::write_url_file;
+use crate::report::write_report;
 use crate::status::{ReadPlace, Status, Unbuilt};
-use crate::url_file::url_text;
 use host_disk::{Disk, DiskFault};
 use host_source::Source;
 use std::alloc::Global;
@@ -80,10 +80,10 @@ fn scan_attached<S: Source, D: Disk>(
         }
         Err(ReadEnd::NoMemory) => return Status::NoMemory,
     };
-    let Ok(text) = url_text(alloc, image.as_slice()) else {
+    let Ok(texts) = feature_texts(alloc, image.as_slice()) else {
         return Status::NoMemory;
     };
-    match write_url_file(disk, text.as_slice()) {
+    match write_report(disk, &texts) {
         Ok(()) => Status::Done,
         Err(DiskFault::Failed) => Status::DiskFault,
         Err(DiskFault::NoMemory) => Status::NoMemory,

@@ -3,15 +3,18 @@ ghost use Rattle.host_source.specs.Source.{IsDetached};
 ghost use Rattle.host_source.specs.MemSource.{mem_slots};
 ghost use Rattle.host_disk.specs.MemDisk.{mem_mounted};
 
-use crate::{Outcome, ReadPlace, Status, URL_FILE, Unbuilt, Why, triage};
+use crate::{DOMAIN_FILE, Outcome, ReadPlace, Status, URL_FILE, Unbuilt, Why, triage};
 use byte_kit::NoMemory;
 use host_disk::{MemDisk, SureDisk};
 use host_source::MemSource;
 use std::alloc::Global;
 use std::test::Fail;
 
-const HEADER: &str =
+const URL_HEADER: &str =
     "# triage feature file, format 1\n# file: url.txt\n# columns: path, feature, context\n";
+
+const DOMAIN_HEADER: &str =
+    "# triage feature file, format 1\n# file: domain.txt\n# columns: path, feature, context\n";
 
 // The words as `triage` takes them.
 fn texts(alloc: Global, words: &[&str]) -> Result<Vec<String>, NoMemory> {
@@ -59,31 +62,59 @@ fn scan(
     call(alloc, words.as_slice(), source, disk)
 }
 
+// The text of a file with this header and these lines.
+fn file_of(alloc: Global, header: &str, lines: &str) -> Result<String, NoMemory> {
+    let mut text = String::from_str(alloc, header)?;
+    text.push_str(lines)?;
+    Ok(text)
+}
+
 #[test]
-fn each_url_has_a_line_at_its_place(rt: HostRuntime) -> Result<(), Fail> {
+fn each_url_and_each_domain_has_a_line_at_its_place(rt: HostRuntime) -> Result<(), Fail> {
     let alloc = rt.alloc();
     let rows = [
-        ("", ""),
+        ("", "", ""),
         (
             "see http://example.com/a b",
-            "4\thttp://example.com/a\thttp://example.com/a\n",
+            "4\thttp://example.com/a\tsee http://example.com/a b\n",
+            "11\texample.com\tsee http://example.com/a b\n",
         ),
         (
             "http://a.b/?u=http://c.d/",
-            "0\thttp://a.b/?u=http://c.d/\thttp://a.b/?u=http://c.d/\n14\thttp://c.d/\thttp://c.d/\n",
+            "0\thttp://a.b/?u=http://c.d/\thttp://a.b/?u=http://c.d/\n14\thttp://c.d/\thttp://a.b/?u=http://c.d/\n",
+            "7\ta.b\thttp://a.b/?u=http://c.d/\n21\tc.d\t//a.b/?u=http://c.d/\n",
         ),
-        ("x ftp://", ""),
-        ("HTTPS://X", "0\tHTTPS://X\tHTTPS://X\n"),
-        ("ftp://a\0b", "0\tftp://a\tftp://a\n"),
-        ("at the end: ftp://z", "12\tftp://z\tftp://z\n"),
+        ("x ftp://", "", ""),
+        ("HTTPS://X", "0\tHTTPS://X\tHTTPS://X\n", ""),
+        (
+            "http://jo.doe@h.org/",
+            "0\thttp://jo.doe@h.org/\thttp://jo.doe@h.org/\n",
+            "",
+        ),
+        (
+            "http://a.b...:80/",
+            "0\thttp://a.b...:80/\thttp://a.b...:80/\n",
+            "7\ta.b\thttp://a.b...:80/\n",
+        ),
+        ("\tftp://a\0\\", "1\tftp://a\t\\x09ftp://a\\x00\\x5C\n", ""),
+        (
+            "at the end: ftp://z.y",
+            "12\tftp://z.y\tat the end: ftp://z.y\n",
+            "18\tz.y\t the end: ftp://z.y\n",
+        ),
     ];
-    for (image, lines) in rows {
+    for (image, urls, domains) in rows {
         let outcome = scan(alloc, image.as_bytes(), &[], &[])?;
         assert_eq!(rt; outcome.status, Status::Done, "at {image:?}");
-        let mut want = String::from_str(alloc, HEADER)?;
-        want.push_str(lines)?;
+        let want = file_of(alloc, URL_HEADER, urls)?;
         assert_eq!(rt;
             outcome.disk.file(URL_FILE),
+            want.as_bytes(),
+            "at {image:?}"
+        );
+        let want = file_of(alloc, DOMAIN_HEADER, domains)?;
+        assert_eq!(rt;
+            outcome.disk.file(DOMAIN_FILE),
             want.as_bytes(),
             "at {image:?}"
         );
@@ -98,7 +129,7 @@ fn a_url_is_cut_at_2048_bytes(rt: HostRuntime) -> Result<(), Fail> {
     for _ in 0..2041 {
         image.push(b'a')?;
     }
-    let mut want = String::from_str(alloc, HEADER)?;
+    let mut want = String::from_str(alloc, URL_HEADER)?;
     want.push_str("0\thttp://")?;
     for _ in 0..2041 {
         want.push('a')?;
@@ -107,8 +138,11 @@ fn a_url_is_cut_at_2048_bytes(rt: HostRuntime) -> Result<(), Fail> {
     for _ in 0..2041 {
         want.push('a')?;
     }
+    // The context of the first ends with the image, and that of the second takes a byte more.
+    let mut longer = want.clone()?;
     want.push('\n')?;
-    for _ in 0..2 {
+    longer.push_str("a\n")?;
+    for want in [want, longer] {
         assert!(rt; image.len() < 3000);
         let outcome = scan(alloc, image.as_slice(), &[], &[])?;
         assert_eq!(rt; outcome.status, Status::Done);
@@ -211,7 +245,7 @@ fn forms_that_are_not_built_leave_the_disk_alone(rt: HostRuntime) -> Result<(), 
     image.resize(1_048_576, 0)?;
     let outcome = scan(alloc, image.as_slice(), &[], &[])?;
     assert_eq!(rt; outcome.status, Status::Done);
-    assert_eq!(rt; outcome.disk.file(URL_FILE), HEADER.as_bytes());
+    assert_eq!(rt; outcome.disk.file(URL_FILE), URL_HEADER.as_bytes());
 
     image.push(0)?;
     assert!(rt; image.len() < 2_000_000);
@@ -240,18 +274,19 @@ fn a_fault_of_the_source_names_what_was_not_read(rt: HostRuntime) -> Result<(), 
     Ok(())
 }
 
-// The calls are the mount, the cut, the write and the sync: a report that isn't synced isn't done.
+// The calls are the mount, and for each file the cut, the write and the sync: a report that isn't
+// synced isn't done.
 #[test]
 fn a_fault_of_the_disk_at_any_call_ends_the_scan(rt: HostRuntime) -> Result<(), Fail> {
     let alloc = rt.alloc();
-    let rows = [(0, 0), (1, 1), (2, 2), (3, 2)];
+    let rows = [(0, 0), (1, 1), (2, 2), (3, 2), (4, 3), (5, 4), (6, 4)];
     for (call, writes) in rows {
         let outcome = scan(alloc, b"ftp://a", &[], &[call])?;
         assert_eq!(rt; outcome.status, Status::DiskFault, "at {call}");
         assert_eq!(rt; outcome.status.number(), 8);
         assert_eq!(rt; outcome.disk.writes(), writes, "at {call}");
     }
-    let outcome = scan(alloc, b"ftp://a", &[], &[4])?;
+    let outcome = scan(alloc, b"ftp://a", &[], &[7])?;
     assert_eq!(rt; outcome.status, Status::Done);
     assert_eq!(rt; outcome.status.number(), 0);
     Ok(())
