@@ -17,7 +17,7 @@ all:
 demo: all
 	printf '\000\001\002see http://example.com/a b\377\376HTTPS://Example.org/?u=ftp://files.example.net/x\n\000\000' > $(SCRATCH)/image
 	$(PROGRAM) scan $(SCRATCH)/image $(SCRATCH)/report
-	cat $(SCRATCH)/report/url.txt
+	cat $(SCRATCH)/report/url.txt $(SCRATCH)/report/domain.txt
 
 test:
 	rt ci
