@@ -1,5 +1,13 @@
-//! The program's call: from the words of the command line, sources and a disk to a report and a
-//! status.
+//! All that the program does: from the words of the command line, the sources that hold an image and
+//! the disk that takes the report, to the files of the report and a status.
+//!
+//! The promise stands on [`triage`], in `src/call.rt`. A call that answers `Done` leaves the report
+//! files byte for byte as `specs/Case.antt` defines them over the whole image; each refusal comes only
+//! where its cause in `specs/Outcome.antt` is; and a lawful call over objects that don't fail is done,
+//! or wants memory.
+//!
+//! A call goes from `call` (words and sources) by `scan` (one part: attach, size, mount) to `image`
+//! (the read), `feature_text` (what is found, as the texts of files) and `report` (the files written).
 #![tactic(auto)]
 
 mod call;

@@ -69,41 +69,43 @@ fn file_of(alloc: Global, header: &str, lines: &str) -> Result<String, NoMemory>
     Ok(text)
 }
 
+// An image, and the lines of its URLs and of its domains.
+const ROWS: [(&str, &str, &str); 9] = [
+    ("", "", ""),
+    (
+        "see http://example.com/a b",
+        "4\thttp://example.com/a\tsee http://example.com/a b\n",
+        "11\texample.com\tsee http://example.com/a b\n",
+    ),
+    (
+        "http://a.b/?u=http://c.d/",
+        "0\thttp://a.b/?u=http://c.d/\thttp://a.b/?u=http://c.d/\n14\thttp://c.d/\thttp://a.b/?u=http://c.d/\n",
+        "7\ta.b\thttp://a.b/?u=http://c.d/\n21\tc.d\t//a.b/?u=http://c.d/\n",
+    ),
+    ("x ftp://", "", ""),
+    ("HTTPS://X", "0\tHTTPS://X\tHTTPS://X\n", ""),
+    (
+        "http://jo.doe@h.org/",
+        "0\thttp://jo.doe@h.org/\thttp://jo.doe@h.org/\n",
+        "",
+    ),
+    (
+        "http://a.b...:80/",
+        "0\thttp://a.b...:80/\thttp://a.b...:80/\n",
+        "7\ta.b\thttp://a.b...:80/\n",
+    ),
+    ("\tftp://a\0\\", "1\tftp://a\t\\x09ftp://a\\x00\\x5C\n", ""),
+    (
+        "at the end: ftp://z.y",
+        "12\tftp://z.y\tat the end: ftp://z.y\n",
+        "18\tz.y\t the end: ftp://z.y\n",
+    ),
+];
+
 #[test]
 fn each_url_and_each_domain_has_a_line_at_its_place(rt: HostRuntime) -> Result<(), Fail> {
     let alloc = rt.alloc();
-    let rows = [
-        ("", "", ""),
-        (
-            "see http://example.com/a b",
-            "4\thttp://example.com/a\tsee http://example.com/a b\n",
-            "11\texample.com\tsee http://example.com/a b\n",
-        ),
-        (
-            "http://a.b/?u=http://c.d/",
-            "0\thttp://a.b/?u=http://c.d/\thttp://a.b/?u=http://c.d/\n14\thttp://c.d/\thttp://a.b/?u=http://c.d/\n",
-            "7\ta.b\thttp://a.b/?u=http://c.d/\n21\tc.d\t//a.b/?u=http://c.d/\n",
-        ),
-        ("x ftp://", "", ""),
-        ("HTTPS://X", "0\tHTTPS://X\tHTTPS://X\n", ""),
-        (
-            "http://jo.doe@h.org/",
-            "0\thttp://jo.doe@h.org/\thttp://jo.doe@h.org/\n",
-            "",
-        ),
-        (
-            "http://a.b...:80/",
-            "0\thttp://a.b...:80/\thttp://a.b...:80/\n",
-            "7\ta.b\thttp://a.b...:80/\n",
-        ),
-        ("\tftp://a\0\\", "1\tftp://a\t\\x09ftp://a\\x00\\x5C\n", ""),
-        (
-            "at the end: ftp://z.y",
-            "12\tftp://z.y\tat the end: ftp://z.y\n",
-            "18\tz.y\t the end: ftp://z.y\n",
-        ),
-    ];
-    for (image, urls, domains) in rows {
+    for (image, urls, domains) in ROWS {
         let outcome = scan(alloc, image.as_bytes(), &[], &[])?;
         assert_eq!(rt; outcome.status, Status::Done, "at {image:?}");
         let want = file_of(alloc, URL_HEADER, urls)?;
