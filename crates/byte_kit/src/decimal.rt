@@ -36,7 +36,7 @@ pub fn dec_write(number: u64, into: &mut [u8; 20]) -> usize
 }
 
 /// Appends a number in decimal. Refused for want of memory, it leaves the bytes as they were.
-pub fn dec_push(number: u64, into: &mut Vec<u8>) -> Result<(), NoMemory>
+pub fn dec_into(number: u64, into: &mut Vec<u8>) -> Result<(), NoMemory>
     ensures pushed { OnOk result (into.new.items ≡ into.old.items ++ decimal number) }
     ensures same { OnErr result (into.new.items ≡ into.old.items) }
 {

@@ -14,7 +14,7 @@ mod numbers;
 mod text;
 
 pub use classes::{is_base64, is_digit, is_hex, is_host, is_letter, is_printable, is_url, is_word};
-pub use decimal::{dec_push, dec_read, dec_write};
+pub use decimal::{dec_into, dec_read, dec_write};
 pub use memory::NoMemory;
 pub use numbers::{be16_at, be32_at, le16_at, le32_at, le64_at, put_le16, put_le32, put_le64};
 pub use text::{Bytes, Name, Names, Texts};

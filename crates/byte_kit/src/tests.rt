@@ -1,5 +1,5 @@
 use crate::{
-    Bytes, Name, Names, Texts, be16_at, be32_at, dec_push, dec_read, dec_write, is_base64,
+    Bytes, Name, Names, Texts, be16_at, be32_at, dec_into, dec_read, dec_write, is_base64,
     is_digit, is_hex, is_host, is_letter, is_printable, is_url, is_word, le16_at, le32_at, le64_at,
     put_le16, put_le32, put_le64,
 };
@@ -119,8 +119,8 @@ fn a_decimal_is_canonical_and_below_two_to_the_64(rt: HostRuntime) {
 #[test]
 fn a_pushed_decimal_stands_behind(rt: HostRuntime) -> Result<(), Fail> {
     let mut into = Vec::from_slice(rt.alloc(), b"at ")?;
-    dec_push(0, &mut into)?;
-    dec_push(u64::MAX, &mut into)?;
+    dec_into(0, &mut into)?;
+    dec_into(u64::MAX, &mut into)?;
     assert_eq!(rt; into.as_slice(), b"at 018446744073709551615".as_slice());
     Ok(())
 }

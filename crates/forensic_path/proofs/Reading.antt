@@ -8,7 +8,7 @@ use Rattle.forensic_path.specs.Parts.{FollowsPart, IsCut}
 use Rattle.forensic_path.specs.Grammar.{IsLawfulStep, HaveText, IsReadAs, TellsDeepSteps, TellsDeepPath}
 use Rattle.forensic_path.specs.declared.path.Step.{Step}
 use Rattle.forensic_path.specs.declared.path.Path.{Path}
-use Rattle.forensic_path.specs.declared.path.TheConstants.{MOST_STEPS}
+use Rattle.forensic_path.specs.declared.path.TheConstants.{STEPS_MOST}
 use Rattle.forensic_path.specs.declared.fault.PathFault.{PathFault}
 use Rattle.forensic_path.specs.declared.fault.PathFault.TheVariants.{Form, Deep, NoMemory}
 use Rattle.forensic_path.proofs.OnePath.{steps_continue, steps_follow, path_whole}
@@ -19,7 +19,7 @@ pub record HasRead (text : List ℕ) (done : List Step) (rest : List ℕ) (kept 
   pub whole : flat_map step_text done ++ rest ≡ text
   pub follows : FollowsPart rest
   pub counted : count ≡ length done
-  pub first : count ≤ MOST_STEPS → kept ≡ done
+  pub first : count ≤ STEPS_MOST → kept ≡ done
 
 -- each step has a byte at least
 length_steps : (steps : List Step) → length steps ≤ length (flat_map step_text steps)
@@ -37,7 +37,7 @@ HasRead-length {text} {rest} {done} h =
 -- one more step
 pub HasRead-more : {text rest behind : List ℕ} {done kept longer : List Step} {count : ℕ} {step : Step}
     → HasRead text done rest kept count → IsLawfulStep step → rest ≡ step_text step ++ behind → FollowsPart behind
-    → (count < MOST_STEPS → longer ≡ kept ++ step ∷ []) → HasRead text (done ++ step ∷ []) behind longer (count + 1)
+    → (count < STEPS_MOST → longer ≡ kept ++ step ∷ []) → HasRead text (done ++ step ∷ []) behind longer (count + 1)
 HasRead-more {text} {rest} {behind} {done} {kept} {longer} {count} {step} h lawful cut follows more = record {
   lawful = All-append IsLawfulStep done (step ∷ []) h.lawful (All-cons IsLawfulStep step [] lawful (All-nil IsLawfulStep));
   whole = grown;

@@ -1,7 +1,7 @@
 -- Which texts are those of paths, and what a reader answers to them.
 use Rattle.std.specs.Prelude.{◌≡◌, ℕ, ◌^◌, ◌<◌, List, length, flat_map, All, Result, Ok, Err}
 use Rattle.forensic_path.specs.PathText.{step_text, path_text_of}
-use Rattle.forensic_path.specs.declared.path.TheConstants.{MOST_STEPS}
+use Rattle.forensic_path.specs.declared.path.TheConstants.{STEPS_MOST}
 use Rattle.forensic_path.specs.declared.path.Decoder.{Decoder}
 use Rattle.forensic_path.specs.declared.path.Decoder.TheVariants.{Base64, Hex, Utf16, Xor}
 use Rattle.forensic_path.specs.declared.path.Step.{Step}
@@ -46,13 +46,13 @@ IsReadAs value steps (Err Form) = ⊥
 -- a fault that tells a number of steps is of the text of a path with so many, which are too many
 abbrev pub TellsDeepPath : List ℕ → PathFault → Type 0
 TellsDeepPath text (Deep told) =
-    (path : Path) × HasText path text × (length path.steps ≡ told) × (MOST_STEPS < told)
+    (path : Path) × HasText path text × (length path.steps ≡ told) × (STEPS_MOST < told)
 TellsDeepPath text Form = Unit {0}
 TellsDeepPath text NoMemory = Unit {0}
 
 -- the same of the text of steps alone
 abbrev pub TellsDeepSteps : List ℕ → PathFault → Type 0
 TellsDeepSteps text (Deep told) =
-    (steps : List Step) × HaveText steps text × (length steps ≡ told) × (MOST_STEPS < told)
+    (steps : List Step) × HaveText steps text × (length steps ≡ told) × (STEPS_MOST < told)
 TellsDeepSteps text Form = Unit {0}
 TellsDeepSteps text NoMemory = Unit {0}

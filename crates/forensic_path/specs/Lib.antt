@@ -2,3 +2,4 @@ pub mod Grammar
 pub mod Kinds
 pub mod Parts
 pub mod PathText
+pub mod Scanners

@@ -13,12 +13,14 @@ mod fault;
 mod feature;
 mod path;
 mod read;
+mod scanner;
 mod write;
 
 pub use fault::PathFault;
 pub use feature::{Class, Classed, Feature, Kind};
-pub use path::{Decoder, MOST_STEPS, Path, Step, Steps};
+pub use path::{Decoder, STEPS_MOST, Path, Step, Steps};
 pub use read::path_read;
+pub use scanner::Scanner;
 pub use write::path_text;
 
 #[cfg(test)]

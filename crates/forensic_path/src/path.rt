@@ -6,7 +6,7 @@ use std::alloc::Global;
 use std::marker::Model;
 
 /// How many steps a path that is read may have.
-pub const MOST_STEPS: u64 = 7;
+pub const STEPS_MOST: u64 = 7;
 
 /// What turned the bytes of one buffer into those of the next.
 #[derive(Clone, Copy, Debug, PartialEq, Eq)]

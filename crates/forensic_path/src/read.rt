@@ -4,20 +4,20 @@ ghost use Rattle.forensic_path.specs.PathText.{decoder_text, step_text};
 ghost use Rattle.forensic_path.specs.Parts.{FollowsPart, IsCut};
 ghost use Rattle.forensic_path.specs.Grammar.{IsLawfulDecoder, IsLawfulStep, HaveText, HasText, IsReadAs, TellsDeepSteps, TellsDeepPath};
 
-use crate::{Decoder, MOST_STEPS, Path, PathFault, Step, Steps};
+use crate::{Decoder, STEPS_MOST, Path, PathFault, Step, Steps};
 use byte_kit::dec_read;
 use std::alloc::Global;
 
 /// What stands between the parts of a text.
 const DASH: u8 = b'-';
 
-/// Reads the text of a path of at most [`MOST_STEPS`] steps.
+/// Reads the text of a path of at most [`STEPS_MOST`] steps.
 ///
 /// Refused with `Form` where no path has this text, and with `Deep` where one has, but with more steps;
 /// the whole text is read to tell how many.
 pub fn path_read(alloc: Global, text: &[u8]) -> Result<Path, PathFault>
     ensures ok { IfOk result (λ path. HasText path text.now) }
-    ensures few { IfOk result (λ path. length path.steps ≤ MOST_STEPS) }
+    ensures few { IfOk result (λ path. length path.steps ≤ STEPS_MOST) }
     ensures deep { IfErr result (TellsDeepPath text.now) }
 
     // The text of a path is answered by that path, or else by the number of its steps, and never by `Form`.
@@ -35,7 +35,7 @@ pub fn path_read(alloc: Global, text: &[u8]) -> Result<Path, PathFault>
 fn steps_read(alloc: Global, text: &[u8]) -> Result<Steps, PathFault>
     requires { FollowsPart text.now }
     ensures ok { IfOk result (λ steps. HaveText steps text.now) }
-    ensures few { IfOk result (λ steps. length steps ≤ MOST_STEPS) }
+    ensures few { IfOk result (λ steps. length steps ≤ STEPS_MOST) }
     ensures deep { IfErr result (TellsDeepSteps text.now) }
     ensures read { (steps : List Step) → HaveText steps text.now → IsReadAs steps (length steps) result }
 {
@@ -46,13 +46,13 @@ fn steps_read(alloc: Global, text: &[u8]) -> Result<Steps, PathFault>
         let Some((step, behind)) = step_read(rest) else {
             return Err(PathFault::Form);
         };
-        if count < MOST_STEPS {
+        if count < STEPS_MOST {
             steps.add(step)?;
         }
         count += 1;
         rest = behind;
     }
-    if MOST_STEPS < count {
+    if STEPS_MOST < count {
         return Err(PathFault::Deep { steps: count });
     }
     Ok(steps)

@@ -3,7 +3,7 @@ ghost use Rattle.std.specs.Prelude.{◌≡◌, ◌++◌, codes, IfOk, OnOk};
 ghost use Rattle.forensic_path.specs.PathText.{decoder_text, step_text, path_text_of};
 
 use crate::{Decoder, Path, Step};
-use byte_kit::{Bytes, NoMemory, dec_push};
+use byte_kit::{Bytes, NoMemory, dec_into};
 use std::alloc::Global;
 
 /// The text of a path: its offset in decimal, and for each step a dash, the decoder, a dash and the
@@ -13,7 +13,7 @@ pub fn path_text(alloc: Global, path: &Path) -> Result<Bytes, NoMemory>
     ensures { IfOk result (λ text. text ≡ path_text_of path.now) }
 {
     let mut text = Vec::new(alloc);
-    dec_push(path.top, &mut text)?;
+    dec_into(path.top, &mut text)?;
     for step in path.steps.items() {
         push_step(step, &mut text)?;
     }
@@ -25,7 +25,7 @@ fn push_step(step: &Step, text: &mut Vec<u8>) -> Result<(), NoMemory>
 {
     push_decoder(step.by, text)?;
     text.extend_from_slice(b"-")?;
-    dec_push(step.at, text)
+    dec_into(step.at, text)
 }
 
 fn push_decoder(decoder: Decoder, text: &mut Vec<u8>) -> Result<(), NoMemory>
@@ -37,7 +37,7 @@ fn push_decoder(decoder: Decoder, text: &mut Vec<u8>) -> Result<(), NoMemory>
         Decoder::Utf16 => text.extend_from_slice(b"-UTF16")?,
         Decoder::Xor(mask) => {
             text.extend_from_slice(b"-XOR")?;
-            dec_push(u64::from(mask), text)?;
+            dec_into(u64::from(mask), text)?;
         }
     }
     Ok(())

@@ -8,4 +8,4 @@
 
 mod plan;
 
-pub use plan::{BASE64, DOMAIN, EXEC, FIND, HEX, NET, ScanPlan, UNREAD, URL, UTF16, WORD};
+pub use plan::ScanPlan;
