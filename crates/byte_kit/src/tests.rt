@@ -1,5 +1,5 @@
 use crate::{
-    Bytes, Name, Names, Texts, be16_at, be32_at, dec_into, dec_read, dec_write, is_base64,
+    Bytes, Calls, Name, Names, Texts, be16_at, be32_at, dec_into, dec_read, dec_write, is_base64,
     is_digit, is_hex, is_host, is_letter, is_printable, is_url, is_word, le16_at, le32_at, le64_at,
     put_le16, put_le32, put_le64,
 };
@@ -122,5 +122,24 @@ fn a_pushed_decimal_stands_behind(rt: HostRuntime) -> Result<(), Fail> {
     dec_into(0, &mut into)?;
     dec_into(u64::MAX, &mut into)?;
     assert_eq!(rt; into.as_slice(), b"at 018446744073709551615".as_slice());
+    Ok(())
+}
+
+#[test]
+fn calls_fail_by_their_numbers_and_are_kept(rt: HostRuntime) -> Result<(), Fail> {
+    let mut calls = Calls::make(rt.alloc());
+    calls.fail(&[1])?;
+    calls.fail(&[4, 0])?;
+    let cases = [
+        (b'a', true),
+        (b'b', true),
+        (b'c', false),
+        (b'd', false),
+        (b'e', true),
+    ];
+    for (call, is_due) in cases {
+        assert_eq!(rt; calls.begin(call), is_due, "at {call}");
+    }
+    assert_eq!(rt; calls.list(), b"abcde".as_slice());
     Ok(())
 }
