@@ -1,5 +1,5 @@
 // The calls of an object that fails on demand.
-ghost use Rattle.std.specs.Prelude.{◌≡◌, OnOk, OnErr};
+ghost use Rattle.std.specs.Prelude.{◌≡◌, ◌≤◌, OnOk, OnErr};
 ghost use Rattle.byte_kit.specs.Calls.{no_calls, is_due, after_begin, after_fault, with_failing};
 
 use crate::NoMemory;
@@ -53,6 +53,7 @@ impl<C: Drop> Calls<C> {
     pub fn begin(&mut self, call: C) -> bool
         ensures due { result ≡ is_due self.old }
         ensures plan { self.new ≡ after_begin self.old }
+        ensures later { self.old.faults ≤ self.new.faults }
     {
         let is_due = self.failing.contains(&self.made);
         self.made = self.made.saturating_add(1);
@@ -65,7 +66,8 @@ impl<C: Drop> Calls<C> {
 
     /// Counts the fault of a call that fails though it was not told to.
     pub fn fault(&mut self)
-        ensures { self.new ≡ after_fault self.old }
+        ensures plan { self.new ≡ after_fault self.old }
+        ensures later { self.old.faults ≤ self.new.faults }
     {
         self.faults = self.faults.saturating_add(1);
     }

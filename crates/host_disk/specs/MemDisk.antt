@@ -1,6 +1,6 @@
--- What a disk in memory for tests is: its files, its counts, and the calls that are to fail.
-use Rattle.std.specs.Prelude.{◌≡◌, ℕ, ◌+◌, ◌-◌, ◌^◌, ◌↔◌, min, Bool, List, ◌==◌, if◌then◌else◌, IsTrue, IsErrOf, Result}
-use Rattle.std.specs.List.{list_any}
+-- What a disk in memory for tests is: its files, its calls with those that are to fail, and its counts.
+use Rattle.std.specs.Prelude.{◌≡◌, ℕ, ◌↔◌, Bool, IsTrue, IsErrOf, Result}
+use Rattle.byte_kit.specs.Calls.{CallPlan, is_due, after_begin}
 use Rattle.host_disk.specs.Files.{Files}
 use Rattle.host_disk.specs.Disk.{DiskNature}
 use Rattle.host_disk.specs.Contents.{memory_nature, contents}
@@ -20,40 +20,23 @@ mem_files disk = contents disk.medium
 abbrev pub mem_mounted : MemDisk → Bool
 mem_mounted disk = disk.is_mounted
 
--- how many calls of the trait there were, which is the number of the next
-abbrev pub mem_calls : MemDisk → ℕ
+-- the calls of the trait so far, those that are to fail, and the faults
+abbrev pub mem_calls : MemDisk → CallPlan
 mem_calls disk = disk.calls
 
--- how many of them were calls of `write_at` and `cut`
+-- how many of the calls failed
+abbrev pub mem_faults : MemDisk → ℕ
+mem_faults disk = (mem_calls disk).faults
+
+-- how many of the calls were those of `write_at` and `cut`
 abbrev pub mem_writes : MemDisk → ℕ
 mem_writes disk = disk.writes
 
--- how many of them failed
-abbrev pub mem_faults : MemDisk → ℕ
-mem_faults disk = disk.faults
-
--- the numbers of the calls that are to fail
-abbrev pub mem_fails : MemDisk → List ℕ
-mem_fails disk = disk.fails.items
-
 -- the next call is one of those that are to fail
-abbrev pub is_due : MemDisk → Bool
-is_due disk = list_any (λ call. call == mem_calls disk) (mem_fails disk)
+abbrev pub IsDue : MemDisk → Type 0
+IsDue disk = IsTrue (is_due (mem_calls disk))
 
--- one more, up to 2^64 - 1
-abbrev pub counted : ℕ → ℕ
-counted count = min (count + 1) (2 ^ 64 - 1)
-
--- no call of the trait came between: the mount and the counts are as before
-pub record IsNoCall (old new : MemDisk) : Type 0 where
-  pub mounted : mem_mounted new ≡ mem_mounted old
-  pub calls : mem_calls new ≡ mem_calls old
-  pub writes : mem_writes new ≡ mem_writes old
-  pub faults : mem_faults new ≡ mem_faults old
-
--- a call of the trait is counted, and where it was to fail it answers `Failed` and its fault is counted
+-- a call of the trait is counted, with its fault where it is due, and answers `Failed` exactly there
 pub record IsCall {T : Type 0} (old new : MemDisk) (result : Result T DiskFault) : Type 0 where
-  pub calls : mem_calls new ≡ counted (mem_calls old)
-  pub fails : mem_fails new ≡ mem_fails old
-  pub faults : mem_faults new ≡ (if is_due old then counted (mem_faults old) else mem_faults old)
-  pub failed : IsErrOf result Failed ↔ IsTrue (is_due old)
+  pub calls : mem_calls new ≡ after_begin (mem_calls old)
+  pub failed : IsErrOf result Failed ↔ IsDue old

@@ -6,7 +6,7 @@ use byte_kit::NoMemory;
 use std::alloc::Global;
 use std::marker::Model;
 
-/// The bytes of a file, fewer than 2^62 of them.
+// The bytes of a file, fewer than 2^62 of them.
 #[derive(Drop)]
 pub(crate) struct Content {
     bytes: Vec<u8>,
@@ -23,7 +23,7 @@ impl Model for Content {
 }
 
 impl Content {
-    /// No bytes.
+    // No bytes.
     pub(crate) fn make(alloc: Global) -> Content
         ensures { result ≡ [] }
     {
@@ -32,7 +32,7 @@ impl Content {
         }
     }
 
-    /// A copy of the bytes. Its one refusal is want of memory.
+    // A copy of the bytes. Its one refusal is want of memory.
     pub(crate) fn copy(alloc: Global, bytes: &[u8]) -> Result<Content, NoMemory>
         requires { length bytes.now < 2 ^ 62 }
         ensures { IfOk result (λ content. content ≡ bytes.now) }
@@ -42,7 +42,7 @@ impl Content {
         })
     }
 
-    /// The bytes, lent.
+    // The bytes, lent.
     pub(crate) fn as_slice(&self) -> &[u8]
         ensures bytes { result.now ≡ self.now }
         ensures bound { length self.now < 2 ^ 62 }
@@ -50,8 +50,8 @@ impl Content {
         self.bytes.as_slice()
     }
 
-    /// Writes over what stands from the place on, and past the end. Room is made before a byte is
-    /// changed, so a refused write leaves all as it was.
+    // Writes over what stands from the place on, and past the end. Room is made before a byte is
+    // changed, so a refused write leaves all as it was.
     pub(crate) fn write_at(&mut self, at: usize, bytes: &[u8]) -> Result<(), NoMemory>
         requires within { at ≤ length self.old }
         requires bound { at + length bytes.now < 2 ^ 62 }
@@ -64,7 +64,7 @@ impl Content {
         Ok(())
     }
 
-    /// Drops what stands from the place on.
+    // Drops what stands from the place on.
     pub(crate) fn cut(&mut self, to: usize)
         ensures { self.new ≡ take to self.old }
     {
@@ -72,7 +72,7 @@ impl Content {
     }
 }
 
-/// Writes over what stands from the place on, all of it within what is there.
+// Writes over what stands from the place on, all of it within what is there.
 fn overwrite(into: &mut [u8], at: usize, bytes: &[u8])
     requires { at + length bytes.now ≤ length into.old }
     ensures { into.new ≡ written at bytes.now into.old }

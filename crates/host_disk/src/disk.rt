@@ -2,7 +2,7 @@
 ghost use Rattle.std.specs.Prelude.{◌≡◌, ℕ, ◌+◌, ◌^◌, ◌<◌, ◌≤◌, List, length, take, drop, true, false, Bool, IsTrue, IfOk, OnOk, OnErr};
 ghost use Rattle.byte_kit.specs.Places.{put};
 ghost use Rattle.host_disk.specs.Files.{Files, written, OneTorn, OnePartlyCut};
-ghost use Rattle.host_disk.specs.Disk.{DiskNature, HasDiskCause};
+ghost use Rattle.host_disk.specs.Disk.{DiskNature, IsDiskCall};
 
 use byte_kit::NoMemory;
 use thiserror::Error;
@@ -52,9 +52,9 @@ pub trait Disk {
         requires asked { IsTrue ((nature self.old).may_mount name.now) }
         ensures same { nature self.new ≡ nature self.old }
         ensures mounts { OnOk result (mounted self.new ≡ true) }
-        ensures refused { OnErr result (mounted self.new ≡ false) }
+        ensures unmounted { OnErr result (mounted self.new ≡ false) }
         ensures files { files self.new ≡ files self.old }
-        ensures cause { HasDiskCause (faults self.old) (faults self.new) true result };
+        ensures cause { IsDiskCall (faults self.old) (faults self.new) true result };
 
     /// The file's length in bytes.
     fn length(&mut self, file: u32) -> Result<u64, DiskFault>
@@ -65,7 +65,7 @@ pub trait Disk {
         ensures files { files self.new ≡ files self.old }
         ensures bound { IfOk result (λ bytes. bytes < 2 ^ 62) }
         ensures told { IsTrue (nature self.old).tells → IfOk result (λ bytes. bytes ≡ length (files self.old file)) }
-        ensures cause { HasDiskCause (faults self.old) (faults self.new) (nature self.old).takes_memory result };
+        ensures cause { IsDiskCall (faults self.old) (faults self.new) (nature self.old).takes_memory result };
 
     /// Fills `into` with the file's bytes from place `at` on. After a fault `into` holds any bytes.
     fn read_at(&mut self, file: u32, at: u64, into: &mut [u8]) -> Result<(), DiskFault>
@@ -77,7 +77,7 @@ pub trait Disk {
         ensures stays { mounted self.new ≡ true }
         ensures files { files self.new ≡ files self.old }
         ensures told { IsTrue (nature self.old).tells → OnOk result (into.new ≡ take (length into.old) (drop at (files self.old file))) }
-        ensures cause { HasDiskCause (faults self.old) (faults self.new) (nature self.old).takes_memory result };
+        ensures cause { IsDiskCall (faults self.old) (faults self.new) (nature self.old).takes_memory result };
 
     /// Writes over what stands in the file from place `at` on, and past its end.
     fn write_at(&mut self, file: u32, at: u64, bytes: &[u8]) -> Result<(), DiskFault>
@@ -89,7 +89,7 @@ pub trait Disk {
         ensures stays { mounted self.new ≡ true }
         ensures told { IsTrue (nature self.old).tells → OnOk result (files self.new ≡ put (files self.old) file (written at bytes.now (files self.old file))) }
         ensures torn { IsTrue (nature self.old).tells → OnErr result (OneTorn file at (length bytes.now) (files self.old) (files self.new)) }
-        ensures cause { HasDiskCause (faults self.old) (faults self.new) (nature self.old).takes_memory result };
+        ensures cause { IsDiskCall (faults self.old) (faults self.new) (nature self.old).takes_memory result };
 
     /// Cuts the file to a length of at most its own.
     fn cut(&mut self, file: u32, to: u64) -> Result<(), DiskFault>
@@ -101,7 +101,7 @@ pub trait Disk {
         ensures stays { mounted self.new ≡ true }
         ensures told { IsTrue (nature self.old).tells → OnOk result (files self.new ≡ put (files self.old) file (take to (files self.old file))) }
         ensures torn { IsTrue (nature self.old).tells → OnErr result (OnePartlyCut file to (files self.old) (files self.new)) }
-        ensures cause { HasDiskCause (faults self.old) (faults self.new) (nature self.old).takes_memory result };
+        ensures cause { IsDiskCall (faults self.old) (faults self.new) (nature self.old).takes_memory result };
 
     /// Makes sure of the file: after `Ok` no crash changes what is read of it now.
     fn sync(&mut self, file: u32) -> Result<(), DiskFault>
@@ -110,5 +110,5 @@ pub trait Disk {
         ensures same { nature self.new ≡ nature self.old }
         ensures stays { mounted self.new ≡ true }
         ensures files { files self.new ≡ files self.old }
-        ensures cause { HasDiskCause (faults self.old) (faults self.new) (nature self.old).takes_memory result };
+        ensures cause { IsDiskCall (faults self.old) (faults self.new) (nature self.old).takes_memory result };
 }

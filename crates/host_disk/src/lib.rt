@@ -1,9 +1,9 @@
 //! Where a scan writes: the trait `Disk`, whose meaning is files as a read gives them and a count of
 //! faults, and two disks in memory: `SureDisk`, which never fails, and `MemDisk`, whose calls can be
-//! made to fail by their number.
+//! made to fail by their number and are kept for a test to read.
 //!
-//! The promise: each call changes its own file alone, and a fault is answered only where the count of
-//! faults rose.
+//! The promise: each call changes its own file alone, a call that works leaves the count of faults, and
+//! one that failed raises it by one.
 #![tactic(auto)]
 
 mod content;
@@ -13,7 +13,7 @@ mod mem_disk;
 mod sure_disk;
 
 pub use disk::{Disk, DiskFault};
-pub use mem_disk::MemDisk;
+pub use mem_disk::{DiskCall, MemDisk};
 pub use sure_disk::SureDisk;
 
 #[cfg(test)]

@@ -9,8 +9,8 @@ use byte_kit::NoMemory;
 use std::alloc::Global;
 use std::marker::Model;
 
-/// Numbered files, of which the list holds those up to the highest that was ever written. Memory
-/// grows with what is written alone.
+// Numbered files, of which the list holds those up to the highest that was ever written. Memory
+// grows with what is written alone.
 #[derive(Drop)]
 pub(crate) struct Medium {
     alloc: Global,
@@ -26,7 +26,7 @@ impl Model for Medium {
 }
 
 impl Medium {
-    /// All files empty.
+    // All files empty.
     pub(crate) fn make(alloc: Global) -> Medium
         ensures { result ≡ [] }
     {
@@ -36,7 +36,7 @@ impl Medium {
         }
     }
 
-    /// The file's bytes, lent; none where it isn't there.
+    // The file's bytes, lent; none where it isn't there.
     pub(crate) fn file(&self, file: u32) -> &[u8]
         ensures bytes { result.now ≡ contents self.now file }
         ensures bound { length result.now < 2 ^ 62 }
@@ -47,7 +47,7 @@ impl Medium {
         }
     }
 
-    /// Fills `into` with the file's bytes from the place on.
+    // Fills `into` with the file's bytes from the place on.
     pub(crate) fn read_at(&self, file: u32, at: u64, into: &mut [u8])
         requires { at + length into.old ≤ length (contents self.now file) }
         ensures { into.new ≡ take (length into.old) (drop at (contents self.now file)) }
@@ -57,7 +57,7 @@ impl Medium {
         into.copy_from_slice(found);
     }
 
-    /// Puts other bytes in the place of the file's. Refused, it leaves all files as they were.
+    // Puts other bytes in the place of the file's. Refused, it leaves all files as they were.
     pub(crate) fn set(&mut self, file: u32, bytes: &[u8]) -> Result<(), NoMemory>
         requires { length bytes.now < 2 ^ 62 }
         ensures set { OnOk result (contents self.new ≡ put (contents self.old) file bytes.now) }
@@ -69,8 +69,8 @@ impl Medium {
         Ok(())
     }
 
-    /// Writes over what stands in the file from the place on, and past its end. Refused, it leaves
-    /// all files as they were.
+    // Writes over what stands in the file from the place on, and past its end. Refused, it leaves
+    // all files as they were.
     pub(crate) fn write_at(&mut self, file: u32, at: u64, bytes: &[u8]) -> Result<(), NoMemory>
         requires within { at ≤ length (contents self.old file) }
         requires bound { at + length bytes.now < 2 ^ 62 }
@@ -82,7 +82,7 @@ impl Medium {
         Ok(())
     }
 
-    /// Drops what stands in the file from the place on.
+    // Drops what stands in the file from the place on.
     pub(crate) fn cut(&mut self, file: u32, to: u64)
         ensures { contents self.new ≡ put (contents self.old) file (take to (contents self.old file)) }
     {
@@ -93,8 +93,8 @@ impl Medium {
     }
 }
 
-/// Adds empty files until the list has so many. Refused, it may have added some: they change no
-/// file's bytes.
+// Adds empty files until the list has so many. Refused, it may have added some: they change no
+// file's bytes.
 fn grow_to(alloc: Global, files: &mut Vec<Content>, count: usize) -> Result<(), NoMemory>
     ensures same { contents files.new.items ≡ contents files.old.items }
     ensures enough { OnOk result (count ≤ vec_len files.new) }

@@ -1,8 +1,9 @@
 ghost use Rattle.std.specs.Prelude.{◌≡◌, ◌+◌, ◌^◌, ◌<◌, IsTrue, OnOk, length, true};
 ghost use Rattle.byte_kit.specs.Places.{put};
+ghost use Rattle.host_disk.specs.Disk.{HasDiskCause};
 ghost use Rattle.host_disk.specs.MemDisk.{mem_mounted};
 
-use crate::{Disk, DiskFault, MemDisk, SureDisk};
+use crate::{Disk, DiskCall, DiskFault, MemDisk, SureDisk};
 use std::process::Abort;
 use std::test::Fail;
 
@@ -13,6 +14,7 @@ fn replace<D: Disk + Send>(disk: &mut D, file: u32, bytes: &[u8]) -> Result<(), 
     requires bound { length bytes.now < 2 ^ 62 }
     ensures stays { D.mounted disk.new ≡ true }
     ensures replaced { IsTrue (D.nature disk.old).tells → OnOk result (D.files disk.new ≡ put (D.files disk.old) file bytes.now) }
+    ensures cause { HasDiskCause (D.faults disk.old) (D.faults disk.new) true result }
 {
     disk.cut(file, 0)?;
     disk.write_at(file, 0, bytes)?;
@@ -80,13 +82,8 @@ fn writes_and_cuts_change_their_file_alone(rt: HostRuntime) -> Result<(), Fail> 
     assert_eq!(rt; disk.file(4), b"other".as_slice());
     assert_eq!(rt; disk.file(2), b"kept".as_slice());
     assert_eq!(rt; disk.writes(), 5);
-    Ok(())
-}
 
-#[test]
-fn a_file_that_is_not_there_has_no_bytes(rt: HostRuntime) -> Result<(), Fail> {
-    let mut disk = MemDisk::make(rt.alloc());
-    disk.mount("place")?;
+    // A file that isn't there has no bytes.
     assert_eq!(rt; disk.length(0)?, 0);
     assert_eq!(rt; disk.length(63)?, 0);
     assert!(rt; disk.file(63).is_empty());
@@ -114,6 +111,33 @@ fn a_named_call_fails_once_and_changes_nothing(rt: HostRuntime) -> Result<(), Fa
     cut(&rt, &mut disk, 2)?;
     assert_eq!(rt; disk.file(3), b"aB".as_slice());
     assert_eq!(rt; disk.writes(), 4);
+    let made = [
+        DiskCall::Mount,
+        DiskCall::Mount,
+        DiskCall::Write {
+            file: 3,
+            at: 0,
+            bytes: 1,
+        },
+        DiskCall::Write {
+            file: 3,
+            at: 1,
+            bytes: 1,
+        },
+        DiskCall::Cut { file: 3, to: 1 },
+        DiskCall::Length { file: 3 },
+        DiskCall::Read {
+            file: 3,
+            at: 1,
+            bytes: 2,
+        },
+        DiskCall::Length { file: 3 },
+        DiskCall::Sync { file: 3 },
+        DiskCall::Sync { file: 3 },
+        DiskCall::Length { file: 3 },
+        DiskCall::Cut { file: 3, to: 2 },
+    ];
+    assert_eq!(rt; disk.calls(), made.as_slice());
     Ok(())
 }
 

@@ -11,4 +11,4 @@ returns-in_err-write_at-clause-torn c =
     let err = err_from_is_err_and gives.result gives.ensures.1 in
     rw err.1 (one_torn_not c.args.file c.args.at (length c.args.bytes.now)
     (mem_files c.args.self.now) (contents c.write_at.new.self)
-    (c.in_err-write_at.ensures.same ∙ ap mem_files c.begin.ensures.same))
+    (c.in_err-write_at.ensures.same ∙ ap mem_files c.begin.ensures.rest))
