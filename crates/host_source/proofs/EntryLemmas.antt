@@ -1,6 +1,7 @@
 -- Entries by their names: each is the one that its name finds, also after one more was added.
 use Rattle.std.proofs.Common.{◌≡◌, ℕ, zero, suc, ◌<◌, Bool, true, false, List, [], ◌∷◌, ◌++◌, length, get_or, set, take, drop, Option, Some, None, refl, ap, sym, subst, if◌then◌else◌, arith}
 use Rattle.std.proofs.lemmas.List.{length_push}
+use Rattle.std.proofs.lemmas.Bool.Decides.{nat_tests}
 use Rattle.std.proofs.lemmas.Grind.{common_steps}
 use Rattle.std.proofs.lemmas.Option.{gets, slice_get-get_or, cond_some}
 use Rattle.host_source.proofs.SlotLemmas.{put-set}
@@ -34,6 +35,10 @@ first_of_name (e ∷ es) (suc n) d apart lt =
     let rest : position_or_len (is_named (get_or es n d).name) es ≡ n =
     first_of_name es n d (λ i j x before below. apart (suc i) (suc j) x (omega arith) (omega arith)) here in
     rw other (omega (arith, rest))
+
+-- where no place has a name, nothing is held under it
+pub absent_without_place : (es : List Entry) (name : List ℕ) → position (is_named name) es ≡ None → held_in es name ≡ None
+absent_without_place es name none = rw find_at (grind (arith, nat_tests, gets))
 
 -- an entry is what its name finds
 pub held_at : (es : List Entry) (place : ℕ) (entry : Entry) → AreApart es → place < length es →

@@ -1,24 +1,12 @@
--- Calls that are counted from 0, and the numbers of those that are to fail.
-use Rattle.std.specs.Prelude.{ℕ, ◌+◌, ◌-◌, ◌^◌, min, List, ◌++◌}
+-- What a call of a source in memory does to its counts.
+use Rattle.std.specs.Prelude.{◌≡◌, IsTrue, Result, OnOk, OnErr}
+use Rattle.byte_kit.specs.Calls.{CallPlan, is_due, after_call, after_fault}
 
--- how many calls were made, which are to fail, and how often one failed
-pub record CallPlan : Type 0 where
-  pub made : ℕ
-  pub failing : List ℕ
-  pub faults : ℕ
+-- the next call is one of those that are to fail
+abbrev pub IsDue : CallPlan → Type 0
+IsDue calls = IsTrue (is_due calls)
 
--- one more, up to the last value
-abbrev pub one_more : ℕ → ℕ
-one_more count = min (count + 1) (2 ^ 64 - 1)
-
--- after a call
-abbrev pub after_call : CallPlan → CallPlan
-after_call plan = record plan { made = one_more plan.made }
-
--- after a fault
-abbrev pub after_fault : CallPlan → CallPlan
-after_fault plan = record plan { faults = one_more plan.faults }
-
--- with further calls that are to fail
-abbrev pub with_failing : CallPlan → List ℕ → CallPlan
-with_failing plan calls = record plan { failing = plan.failing ++ calls }
+-- a call is counted, and its fault where it fails
+pub record IsCall {T E : Type 0} (old new : CallPlan) (result : Result T E) : Type 0 where
+  pub works : OnOk result (new ≡ after_call old)
+  pub fails : OnErr result (new ≡ after_fault (after_call old))

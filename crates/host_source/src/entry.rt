@@ -4,7 +4,7 @@ ghost use Rattle.std.specs.Prelude.{◌≡◌, ◌+◌, ◌^◌, ◌<◌, ◌≤
 use byte_kit::{Bytes, Name, NoMemory};
 use std::alloc::Global;
 
-/// Fewer than 2^57 bytes under a name.
+// Fewer than 2^57 bytes under a name.
 #[derive(Drop)]
 pub struct Entry {
     pub name: Name,
@@ -13,7 +13,7 @@ pub struct Entry {
 }
 
 impl Entry {
-    /// A copy of the name and of the bytes. Its one refusal is want of memory.
+    // A copy of the name and of the bytes. Its one refusal is want of memory.
     pub fn copy(alloc: Global, name: &str, bytes: &[u8]) -> Result<Entry, NoMemory>
         requires { length bytes.now < 2 ^ 57 }
         ensures name { IfOk result (λ entry. entry.name ≡ name.now) }
@@ -25,7 +25,7 @@ impl Entry {
         })
     }
 
-    /// How many bytes there are.
+    // How many bytes there are.
     pub fn size(&self) -> u64
         ensures { result ≡ length self.now.bytes }
     {
@@ -33,7 +33,7 @@ impl Entry {
     }
 }
 
-/// Fills `into` with the bytes from place `at` on.
+// Fills `into` with the bytes from place `at` on.
 pub fn copy_from(bytes: &[u8], at: u64, into: &mut [u8])
     requires { at + length into.old ≤ length bytes.now }
     ensures { into.new ≡ take (length into.new) (drop at bytes.now) }

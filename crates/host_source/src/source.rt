@@ -1,6 +1,6 @@
 // What the scan asks of whatever holds an image.
 ghost use Rattle.std.specs.Prelude.{◌≡◌, ℕ, ◌+◌, ◌<◌, List, length, None, IsTrue, IfOk, OnOk, OnErr, Option};
-ghost use Rattle.byte_kit.specs.Counts.{HasCause};
+ghost use Rattle.byte_kit.specs.Counts.{CountsFault};
 ghost use Rattle.host_source.specs.Source.{SourceNature, Slot, Attaches, IsWithin, Reads};
 
 use thiserror::Error;
@@ -29,7 +29,7 @@ pub trait Source {
         ensures same { nature self.new ≡ nature self.old }
         ensures ok { IfOk result (Attaches (nature self.old) (slots self.old) (slots self.new) slot name.now) }
         ensures err { OnErr result (slots self.new ≡ slots self.old) }
-        ensures cause { HasCause (faults self.old) (faults self.new) result };
+        ensures cause { CountsFault (faults self.old) (faults self.new) result };
 
     /// Fills `into` with the slot's bytes from place `at` on. After a fault `into` holds any bytes.
     fn read_at(&mut self, slot: u32, at: u64, into: &mut [u8]) -> Result<(), SourceFault>
@@ -37,5 +37,5 @@ pub trait Source {
         ensures same { nature self.new ≡ nature self.old }
         ensures slots { slots self.new ≡ slots self.old }
         ensures ok { OnOk result (Reads (nature self.old) (slots self.old) slot at into.new) }
-        ensures cause { HasCause (faults self.old) (faults self.new) result };
+        ensures cause { CountsFault (faults self.old) (faults self.new) result };
 }

@@ -1,7 +1,7 @@
 ghost use Rattle.std.specs.Prelude.{◌≡◌, ◌+◌, ◌<◌, ◌≤◌, length, take, drop, None, IsTrue, IfSome, IfOk};
 ghost use Rattle.host_source.specs.Source.{IsDetached, MayAttachAll, told};
 
-use crate::{MemSource, Source, SourceFault, SureSource};
+use crate::{MemSource, Source, SourceCall, SourceFault, SureSource};
 use std::test::Fail;
 use std::thread::{self, Threads};
 
@@ -64,24 +64,15 @@ fn attach_gives_the_size_and_a_read_in_the_middle_its_bytes(rt: HostRuntime) -> 
     let mut source = MemSource::make(rt.alloc());
     source.add("note.txt", b"")?;
     source.add("disk.raw", b"0123456789")?;
+    // A missing name leaves the slot free.
+    assert!(rt; is_refused(&mut source, "disk.ra"));
     let mut into = [b'x'; 4];
-    assert_eq!(rt; read_from(&mut source, 63, "disk.raw", 3, &mut into)?, 10);
+    assert_eq!(rt; read_from(&mut source, 0, "disk.raw", 3, &mut into)?, 10);
     assert_eq!(rt; into, *b"3456");
 
     let mut sure = SureSource::of("disk.raw", b"abcdefgh");
     assert_eq!(rt; read_from(&mut sure, 63, "disk.raw", 4, &mut into)?, 8);
     assert_eq!(rt; into, *b"efgh");
-    Ok(())
-}
-
-#[test]
-fn a_missing_name_is_a_fault_and_leaves_the_slot_free(rt: HostRuntime) -> Result<(), Fail> {
-    let mut source = MemSource::make(rt.alloc());
-    source.add("disk.raw", b"0123")?;
-    assert!(rt; is_refused(&mut source, "disk.ra"));
-    let mut into = [b'x'; 2];
-    assert_eq!(rt; read_from(&mut source, 0, "disk.raw", 2, &mut into)?, 4);
-    assert_eq!(rt; into, *b"23");
     Ok(())
 }
 
@@ -94,6 +85,18 @@ fn the_named_calls_fail_and_the_next_one_works(rt: HostRuntime) -> Result<(), Fa
     let mut into = [b'x'; 4];
     assert!(rt; works_at_the_second_try(&mut source, "disk.raw", &mut into));
     assert_eq!(rt; into, *b"0123");
+    let read = SourceCall::Read {
+        slot: 0,
+        at: 0,
+        bytes: 4,
+    };
+    let made = [
+        SourceCall::Attach { slot: 0 },
+        SourceCall::Attach { slot: 0 },
+        read,
+        read,
+    ];
+    assert_eq!(rt; source.calls(), made.as_slice());
     Ok(())
 }
 
