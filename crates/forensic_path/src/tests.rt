@@ -126,6 +126,7 @@ fn a_feature_keeps_what_it_was_made_of(rt: HostRuntime) -> Result<(), Fail> {
     };
     assert_eq!(rt; classed.class, Class::Alert);
     assert_eq!(rt; classed.item.kind, Kind::Domain);
+    assert_eq!(rt; classed.item.kind.number(), 2);
     assert_eq!(rt; classed.item.path.steps.items(), [BASE64].as_slice());
     assert_eq!(rt; classed.item.feature.as_slice(), b"example.com".as_slice());
     Ok(())
