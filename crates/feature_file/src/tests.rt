@@ -16,41 +16,55 @@ fn path(alloc: Global, top: u64, steps: u64) -> Result<Path, Fail> {
     Ok(Path { top, steps: list })
 }
 
+// The names of the files 0 to 39, empty where there is none.
+static NAMES: [&str; 40] = [
+    "spool.bin",
+    "url.txt",
+    "domain.txt",
+    "ip.txt",
+    "ether.txt",
+    "exec.txt",
+    "unread.txt",
+    "find.txt",
+    "wordlist.txt",
+    "alerts.txt",
+    "",
+    "url_stopped.txt",
+    "domain_stopped.txt",
+    "ip_stopped.txt",
+    "ether_stopped.txt",
+    "exec_stopped.txt",
+    "unread_stopped.txt",
+    "find_stopped.txt",
+    "wordlist_stopped.txt",
+    "",
+    "",
+    "url_histogram.txt",
+    "url_services_histogram.txt",
+    "domain_histogram.txt",
+    "ip_histogram.txt",
+    "ether_histogram.txt",
+    "find_histogram.txt",
+    "",
+    "",
+    "",
+    "",
+    "",
+    "",
+    "",
+    "",
+    "",
+    "",
+    "",
+    "",
+    "",
+];
+
 #[test]
 fn files_have_these_names(rt: HostRuntime) {
-    let names = [
-        Some("spool.bin"),
-        Some("url.txt"),
-        Some("domain.txt"),
-        Some("ip.txt"),
-        Some("ether.txt"),
-        Some("exec.txt"),
-        Some("unread.txt"),
-        Some("find.txt"),
-        Some("wordlist.txt"),
-        Some("alerts.txt"),
-        None,
-        Some("url_stopped.txt"),
-        Some("domain_stopped.txt"),
-        Some("ip_stopped.txt"),
-        Some("ether_stopped.txt"),
-        Some("exec_stopped.txt"),
-        Some("unread_stopped.txt"),
-        Some("find_stopped.txt"),
-        Some("wordlist_stopped.txt"),
-        None,
-        None,
-        Some("url_histogram.txt"),
-        Some("url_services_histogram.txt"),
-        Some("domain_histogram.txt"),
-        Some("ip_histogram.txt"),
-        Some("ether_histogram.txt"),
-        Some("find_histogram.txt"),
-    ];
     for number in 0..40u32 {
-        let at = number as usize;
-        let name = if at < names.len() { names[at] } else { None };
-        assert_eq!(rt; file_name(number), name);
+        let name = file_name(number).unwrap_or("");
+        assert_eq!(rt; name, NAMES[number as usize]);
     }
 }
 
