@@ -1,4 +1,7 @@
 // What a scan finds.
+ghost use Rattle.std.specs.Prelude.{◌≡◌, ◌≤◌};
+ghost use Rattle.forensic_path.specs.Kinds.{number_of};
+
 use crate::Path;
 use byte_kit::Bytes;
 
@@ -21,6 +24,26 @@ pub enum Kind {
     Find,
     /// A word.
     Word,
+}
+
+impl Kind {
+    /// Its number, from 1 in the order above, which is also that of the file of its features.
+    #[inline]
+    pub fn number(self) -> u32
+        ensures number { result ≡ number_of self }
+        ensures below { result ≤ 8 }
+    {
+        match self {
+            Kind::Url => 1,
+            Kind::Domain => 2,
+            Kind::Ip => 3,
+            Kind::Ether => 4,
+            Kind::Exec => 5,
+            Kind::Unread => 6,
+            Kind::Find => 7,
+            Kind::Word => 8,
+        }
+    }
 }
 
 /// What the lists of the user say of a feature.

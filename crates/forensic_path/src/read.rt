@@ -4,7 +4,7 @@ ghost use Rattle.forensic_path.specs.PathText.{decoder_text, step_text};
 ghost use Rattle.forensic_path.specs.Parts.{FollowsPart, IsCut};
 ghost use Rattle.forensic_path.specs.Grammar.{IsLawfulDecoder, IsLawfulStep, HaveText, HasText, IsReadAs, TellsDeepSteps, TellsDeepPath};
 
-use crate::{Decoder, STEPS_MOST, Path, PathFault, Step, Steps};
+use crate::{Decoder, Path, PathFault, STEPS_MOST, Step, Steps};
 use byte_kit::dec_read;
 use std::alloc::Global;
 

@@ -1,5 +1,6 @@
 use crate::{
-    Class, Classed, Decoder, Feature, Kind, Path, PathFault, Step, Steps, path_read, path_text,
+    Class, Classed, Decoder, Feature, Kind, Path, PathFault, Step, Steps, path_into, path_read,
+    path_text,
 };
 use byte_kit::Bytes;
 use std::alloc::Global;
@@ -55,6 +56,9 @@ fn a_path_is_written_and_read_back(rt: HostRuntime) -> Result<(), Fail> {
     for (top, steps, text) in rows {
         let written = path_text(alloc, &path(alloc, top, steps)?)?;
         assert_eq!(rt; written.as_slice(), text);
+        let mut line = Vec::from_slice(alloc, b">")?;
+        path_into(&path(alloc, top, steps)?, &mut line)?;
+        assert_eq!(rt; line.as_slice().split_at(1).1, text);
         let read = path_read(alloc, text)?;
         assert_eq!(rt; read.top, top);
         assert_eq!(rt; read.steps.items(), steps);
@@ -122,6 +126,7 @@ fn a_feature_keeps_what_it_was_made_of(rt: HostRuntime) -> Result<(), Fail> {
     };
     assert_eq!(rt; classed.class, Class::Alert);
     assert_eq!(rt; classed.item.kind, Kind::Domain);
+    assert_eq!(rt; classed.item.kind.number(), 2);
     assert_eq!(rt; classed.item.path.steps.items(), [BASE64].as_slice());
     assert_eq!(rt; classed.item.feature.as_slice(), b"example.com".as_slice());
     Ok(())
