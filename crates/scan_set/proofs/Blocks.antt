@@ -1,7 +1,9 @@
 -- The features of a run of places are those of the marks in it, and runs of places join.
 use Rattle.std.proofs.Common.{◌≡◌, ◌∙◌, ℕ, zero, suc, ◌+◌, ◌-◌, ◌<◌, ◌≤◌, List, [], ◌∷◌, ◌++◌, map, length, get_or, sym, ap, refl, subst, arith, append_assoc}
 use Rattle.std.specs.Prelude.{Option}
+use Rattle.std.specs.List.{All}
 use Rattle.std.proofs.lemmas.List.{map-append}
+use Rattle.std.proofs.lemmas.List.Elements.{All-nil, All-cons, All-append, All-get_or}
 use Rattle.sbuf_nest.specs.Around.{Around, look_at}
 use Rattle.sbuf_nest.specs.Marks.{marks_of}
 use Rattle.sbuf_nest.specs.Turns.{path_at}
@@ -64,23 +66,16 @@ module _ (plan : ScanPlan) (bytes : List ℕ) (base place : ℕ) where
       rw at (ap (feature_of plan (look_at bytes place) (path_at [] (base + place))) same) in
       cc
 
--- each mark is at a place below the end
-abbrev pub AreBelow : ℕ → List Mark → Type 0
-AreBelow end [] = Unit {0}
-AreBelow end (mark ∷ marks) = (mark.at < end) × AreBelow end marks
-
-below-append : (end : ℕ) (a b : List Mark) → AreBelow end a → AreBelow end b → AreBelow end (a ++ b)
-below-append end [] b p q = q
-below-append end (mark ∷ a) b p q = (p.0, below-append end a b p.1 q)
-
-below-said : (end : ℕ) (look : Around) (place : ℕ) (marks : List Mark) (found : List Shape) → place < end → Says look place marks found → AreBelow end marks
-below-said end look place [] found lt says = tt
-below-said end look place (mark ∷ marks) [] lt says = absurd cc
-below-said end look place (mark ∷ marks) (shape ∷ found) lt says =
+-- and stands below each end that the place is below
+below_said : (end : ℕ) (look : Around) (place : ℕ) (marks : List Mark) (found : List Shape) → place < end → Says look place marks found →
+    All (λ (mark : Mark). mark.at < end) marks
+below_said end look place [] found lt says = All-nil (λ (mark : Mark). mark.at < end)
+below_said end look place (mark ∷ marks) [] lt says = absurd cc
+below_said end look place (mark ∷ marks) (shape ∷ found) lt says =
     let first : said look mark ≡ sited place shape = cc in
     let at : mark.at ≡ place = ap (λ (one : Sited). one.at) first in
     let rest : map (said look) marks ≡ map (sited place) found = cc in
-    (omega arith, below-said end look place marks found lt rest)
+    All-cons (λ (mark : Mark). mark.at < end) mark marks (omega arith) (below_said end look place marks found lt rest)
 
 -- ---- the marks of a run of places
 
@@ -99,22 +94,18 @@ module _ (plan : ScanPlan) (built : IsBuilt plan) (bytes : List ℕ) where
   pub owned_marked : (base first count : ℕ) → owned [] plan plan.depth [] bytes base first count ≡ map (marked_feature plan bytes base) (marks_of (marks_at plan) bytes first count)
   owned_marked base first count = ap (λ (depth : ℕ). owned [] plan depth [] bytes base first count) built.depth ∙ features_of_places base first count
 
-  below-places : (end first count : ℕ) → first + count ≤ end → AreBelow end (marks_of (marks_at plan) bytes first count)
+  below_places : (end first count : ℕ) → first + count ≤ end → All (λ (mark : Mark). mark.at < end) (marks_of (marks_at plan) bytes first count)
   unfolding marks_of
-  below-places end first zero within = tt
-  below-places end first (suc count) within =
-      below-append end (marks_at plan (look_at bytes first) first) (marks_of (marks_at plan) bytes (first + 1) count)
-      (below-said end (look_at bytes first) first (marks_at plan (look_at bytes first) first) (shapes [] plan (look_at bytes first)) (omega arith) (marks_say plan (look_at bytes first) first built))
-      (below-places end (first + 1) count (omega arith))
+  below_places end first zero within = All-nil (λ (mark : Mark). mark.at < end)
+  below_places end first (suc count) within =
+      let look = look_at bytes first in
+      All-append (λ (mark : Mark). mark.at < end) (marks_at plan look first) (marks_of (marks_at plan) bytes (first + 1) count)
+      (below_said end look first (marks_at plan look first) (shapes [] plan look) (omega arith) (marks_say plan look first built))
+      (below_places end (first + 1) count (omega arith))
 
-below-at : (end : ℕ) (marks : List Mark) (i : ℕ) (other : Mark) → AreBelow end marks → i < length marks → (get_or marks i other).at < end
-below-at end [] i other below lt = absurd (omega (arith, lt))
-below-at end (mark ∷ marks) zero other below lt = below.0
-below-at end (mark ∷ marks) (suc i) other below lt = below-at end marks i other below.1 (omega arith)
-
--- each of the marks of a run is at one of the buffer's places
-pub place-below : (plan : ScanPlan) (bytes : List ℕ) (first count : ℕ) (marks : List Mark) (i : ℕ) (other : Mark) → IsBuilt plan → first + count ≤ length bytes →
-    marks ≡ marks_of (marks_at plan) bytes first count → i < length marks → (get_or marks i other).at < length bytes
-place-below plan bytes first count marks i other built within all lt =
-    let P : List Mark → Type 0 = λ ms. AreBelow (length bytes) ms in
-    below-at (length bytes) marks i other (subst P (sym all) (below-places plan built bytes (length bytes) first count within)) lt
+  -- each of the marks of a run is at one of the buffer's places
+  pub place_below : (first count : ℕ) (marks : List Mark) (i : ℕ) (other : Mark) → first + count ≤ length bytes →
+      marks ≡ marks_of (marks_at plan) bytes first count → i < length marks → (get_or marks i other).at < length bytes
+  place_below first count marks i other within all lt =
+      let P : Mark → Type 0 = λ mark. mark.at < length bytes in
+      All-get_or P marks i other lt (subst (All P) (sym all) (below_places (length bytes) first count within))
