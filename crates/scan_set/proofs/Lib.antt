@@ -1,2 +1,5 @@
+pub mod Blocks
+pub mod Images
 mod Rows
+pub mod Says
 pub mod Shown

@@ -48,3 +48,9 @@ module _ (patterns : List (List ℕ → Option ℕ)) (plan : ScanPlan) where
   -- the features of an image
   abbrev pub features_of : List ℕ → List Feature
   features_of image = all_of plan.depth [] image
+
+  -- The features of so many places of a buffer from the first on, where byte 0 of the buffer stands at
+  -- the base: a buffer may be a part of an image, whose places are counted from the image's front.
+  unfoldable pub owned : ℕ → List Turn → List ℕ → ℕ → ℕ → ℕ → List Feature
+  owned left turns bytes base first count =
+      flat_map (λ place. here left turns (look_at bytes place) (base + place)) (range_with_len first count)

@@ -1,3 +1,5 @@
+pub mod Shapes
 pub mod Decoders
 pub mod Here
-pub mod Shapes
+pub mod Marks
+pub mod Built

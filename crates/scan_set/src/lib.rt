@@ -1,11 +1,25 @@
-//! All scanners and decoders together: what stands at a place of a buffer, and what stands in the
-//! buffers that decoders make there, down to a limit of depth.
+//! All scanners together: what a scan finds in a buffer. Each place is judged by its Look alone, and
+//! the features of one place stand in the order of their kinds.
 //!
-//! `specs/Shapes.antt` says which features one place has by the bytes around it alone,
-//! `specs/Decoders.antt` which texts are decoded there, and `specs/Here.antt` which features a place,
-//! a buffer and an image have, nested ones included, in their order.
+//! A `ScanPlan` says what a scan looks for, `Tools` are the lists that it works with, and
+//! `scan_owned` makes the features of the places that a buffer owns, each with its forensic path and
+//! its context.
+//!
+//! The promise: `scan_owned` answers exactly the features that `specs/Here.antt` gives those places, in
+//! their order. `specs/Shapes.antt` says which shapes a place has by the bytes around it, and
+//! `specs/Decoders.antt` which texts are decoded there; the definitions say already which features
+//! decoded bytes have, in buffers within buffers. `specs/Built.antt` says what a plan may ask for so
+//! far.
 #![tactic(auto)]
 
+mod feature;
 mod plan;
+mod scan;
+mod tools;
 
 pub use plan::ScanPlan;
+pub use scan::scan_owned;
+pub use tools::Tools;
+
+#[cfg(test)]
+mod tests;
