@@ -1,6 +1,4 @@
-pub mod Calls
-pub mod FeatureReport
-pub mod Lines
-pub mod Lists
-pub mod Places
+pub mod FirstSource
+pub mod OnePart
 mod ReportRows
+pub mod WholeReport

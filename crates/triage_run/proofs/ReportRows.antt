@@ -56,9 +56,9 @@ a_context_is_escaped : built_file (9 ∷ codes "ftp://a" ++ 255 ∷ []) 1
 unfolding built_file
 a_context_is_escaped = refl
 
-packets_are_not_written_yet : built_file (codes "see http://example.com/a b") 3 ≡ None
+packets_are_not_written : built_file (codes "see http://example.com/a b") 3 ≡ None
 unfolding built_file
-packets_are_not_written_yet = refl
+packets_are_not_written = refl
 
 -- ---- the whole report
 

@@ -1,15 +1,15 @@
 -- What a scan is of, and the report that it leaves.
-use Rattle.std.specs.Prelude.{◌≡◌, ℕ, ◌++◌, ◌==◌, ◌/◌, not, ◌||◌, IsTrue, List, [], ◌∷◌, map, filter, Option, Some, None, IfSome, option_map, option_and_then, if◌then◌else◌}
+use Rattle.std.specs.Prelude.{◌≡◌, ℕ, ◌++◌, ◌==◌, ◌/◌, not, ◌||◌, Bool, IsTrue, List, [], ◌∷◌, map, filter, Option, Some, None, IfSome, IsSomeAnd, option_map, option_and_then, if◌then◌else◌}
 use Rattle.forensic_path.specs.declared.feature.Classed.{Classed}
 use Rattle.host_disk.specs.Files.{Files}
-use Rattle.host_disk.specs.Disk.{DiskNature}
 use Rattle.scan_set.specs.declared.plan.ScanPlan.{ScanPlan}
 use Rattle.scan_set.specs.Here.{features_of}
 use Rattle.stop_lists.specs.Lists.{classed_by}
 use Rattle.feature_file.specs.Files.{is_written, is_histogram}
 use Rattle.feature_file.specs.FeatureFile.{file_text}
 use Rattle.count_histogram.specs.Histogram.{histogram_text}
-use Rattle.triage_run.specs.declared.feature_text.TheConstants.{CONTEXT_BYTES}
+use Rattle.report_publish.specs.declared.publish.TheConstants.{FILES_BUILT}
+use Rattle.triage_run.specs.declared.plan.TheConstants.{SCANNERS_BUILT, CONTEXT_BYTES, WORD_FEWEST, WORD_MOST, PAGE_BYTES}
 
 -- the input of a scan as plain data; a reading is what the text of a pattern was read as
 pub record Case (R : Type 0) : Type 0 where
@@ -36,10 +36,10 @@ module _ {R : Type 0} (matches : R → List ℕ → Option ℕ) where
   abbrev pub page_list : Case R → ℕ → List Classed
   page_list c page = filter (λ (f : Classed). f.item.path.top / c.page == page) (classed_of c)
 
-  -- the files with these numbers are the report
+  -- each file with one of these numbers belongs to the report, and has its text
   abbrev pub AreReport : List ℕ → Case R → Files → Type 0
   AreReport [] c files = Unit {0}
-  AreReport (number ∷ numbers) c files = IfSome (report c number) (λ text. files number ≡ text) × AreReport numbers c files
+  AreReport (number ∷ numbers) c files = IsSomeAnd (report c number) (λ text. files number ≡ text) × AreReport numbers c files
 
 -- the parts of an image, joined, where all of them are told
 abbrev pub joined : (List ℕ → Option (List ℕ)) → List (List ℕ) → Option (List ℕ)
@@ -48,22 +48,18 @@ joined told (name ∷ names) = option_and_then (λ bytes. option_map (λ rest. b
 
 -- ---- what is built
 
--- the report files that a scan writes
-abbrev pub built : List ℕ
-built = 1 ∷ 2 ∷ []
-
--- the plan of every scan: the scanners of URLs and of domains in the image itself, with 16 bytes of context
+-- the plan of every scan: the scanners that are built in the image itself, with their context
 abbrev pub plan_built : ScanPlan
-plan_built = record { scanners = 3; depth = 0; mask = 0; word_min = 6; word_max = 14; context = CONTEXT_BYTES; keywords = []; patterns = [] }
+plan_built = record { scanners = SCANNERS_BUILT; depth = 0; mask = 0; word_min = WORD_FEWEST; word_max = WORD_MOST; context = CONTEXT_BYTES; keywords = []; patterns = [] }
 
 -- the case of an image
 abbrev pub case_of : List ℕ → Case (Unit {0})
-case_of image = record { image = image; stop = []; alert = []; page = 16777216; plan = plan_built; readings = [] }
+case_of image = record { image = image; stop = []; alert = []; page = PAGE_BYTES; plan = plan_built; readings = [] }
 
 -- there are no patterns
 abbrev pub no_match : Unit {0} → List ℕ → Option ℕ
 no_match reading bytes = None
 
 -- the files that are built are the report of the image, as far as the image and the disk's files are told
-abbrev pub LeavesReport : Option (List ℕ) → DiskNature → Files → Type 0
-LeavesReport image nature files = IfSome image (λ bytes. IsTrue nature.tells → AreReport no_match built (case_of bytes) files)
+abbrev pub LeavesReport : Option (List ℕ) → Bool → Files → Type 0
+LeavesReport image tells files = IfSome image (λ bytes. IsTrue tells → AreReport no_match FILES_BUILT (case_of bytes) files)

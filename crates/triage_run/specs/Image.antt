@@ -1,10 +1,10 @@
 -- Why the image was not read.
-use Rattle.std.specs.Prelude.{ℕ}
+use Rattle.std.specs.Prelude.{ℕ, ◌<◌}
 use Rattle.byte_kit.specs.Counts.{Rose}
 use Rattle.triage_run.specs.declared.image.ReadEnd.{ReadEnd}
 use Rattle.triage_run.specs.declared.image.ReadEnd.TheVariants.{Fault, NoMemory}
 
--- a fault comes only where the count rose; want of memory is free
-abbrev pub IsReadCause : ℕ → ℕ → ReadEnd → Type 0
-IsReadCause before now Fault = Rose before now
-IsReadCause before now NoMemory = Unit {0}
+-- a fault comes only where there are bytes to read and the count rose; want of memory is free
+abbrev pub IsReadCause : ℕ → ℕ → ℕ → ReadEnd → Type 0
+IsReadCause size before now Fault = (0 < size) × Rose before now
+IsReadCause size before now NoMemory = Unit {0}

@@ -1,7 +1,8 @@
 pub mod Words
-pub mod Case
+pub mod Steps
 pub mod Status
-pub mod Outcome
-pub mod FeatureText
+pub mod Case
+pub mod Sources
+pub mod Kept
+pub mod Call
 pub mod Image
-pub mod Part

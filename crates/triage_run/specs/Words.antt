@@ -9,7 +9,7 @@ use Rattle.triage_run.specs.declared.words.TheConstants.{PLACES_MOST}
 -- a scan: the parts of the image in order, and the folder of the report
 pub record ScanWords : Type 0 where
   pub parts : List (List ℕ)
-  pub place : List ℕ
+  pub out : List ℕ
 
 -- the words as bytes
 abbrev pub texts : {A : Type 0} → List (String A) → List (List ℕ)
@@ -28,4 +28,4 @@ words_of (command ∷ places) =
     else (if begins_with_option places then Err (record { word = 1; why = UnknownOption })
     else (if nat_lt PLACES_MOST (length places) then Err (record { word = PLACES_MOST + 1; why = TooMany })
     else (if nat_lt (length places) 2 then Err (record { word = length places + 1; why = PlaceMissing })
-    else Ok (record { parts = take (length places - 1) places; place = slice_index_or places (length places - 1) [] }))))
+    else Ok (record { parts = take (length places - 1) places; out = slice_index_or places (length places - 1) [] }))))

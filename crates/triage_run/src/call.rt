@@ -1,10 +1,11 @@
 // The call that the program makes.
-ghost use Rattle.std.specs.Prelude.{◌≡◌, ◌<◌, ◌≤◌, ◌^◌, false, IsTrue, List, length, vec_len, IfOk};
-ghost use Rattle.std.specs.List.{All};
-ghost use Rattle.byte_kit.specs.Counts.{Rose};
-ghost use Rattle.host_source.specs.Source.{IsDetached, told};
-ghost use Rattle.triage_run.specs.Outcome.{TellAlike, IsReady, Pairwise, KeepsSource, KeepsDisk, image_named, image_told, first_slot, SourceRose, IsDone, HasCauses, IsExact, IsComplete};
-ghost use Rattle.triage_run.specs.Status.{IsAheadOfAttach, IsAheadOfMount};
+ghost use Rattle.std.specs.Prelude.{◌≡◌, ◌<◌, ◌≤◌, ◌^◌, ◌∷◌, [], true, false, IsTrue, length, vec_len, IfOk};
+ghost use Rattle.std.specs.List.{All, AllByRecursion};
+ghost use Rattle.triage_run.specs.Call.{call_of, Answers, IsCause, IsExact, HasParts};
+ghost use Rattle.triage_run.specs.Kept.{KeepsSource, KeepsDisk, KeepsOthers};
+ghost use Rattle.triage_run.specs.Sources.{TellAlike, IsReady, Pairwise, OnlyParts};
+ghost use Rattle.triage_run.specs.Status.{IfReadFault, IsAheadOf, IsBehind};
+ghost use Rattle.triage_run.specs.Steps.{attach, mount};
 ghost use Rattle.triage_run.specs.Words.{texts, words_of};
 
 use crate::scan::scan_part;
@@ -34,31 +35,27 @@ where
     requires alike { TellAlike S.nature sources.items }
     requires ready { All (IsReady S.nature S.slots (words_of (texts words.now))) sources.items }
     requires unmounted { D.mounted disk ≡ false }
-    requires asked { IfOk (words_of (texts words.now)) (λ scan. IsTrue ((D.nature disk).may_mount scan.place)) }
+    requires asked { IfOk (words_of (texts words.now)) (λ scan. IsTrue ((D.nature disk).may_mount scan.out)) }
 
     // Every object comes back, tells what it told, and has a count of faults that is no lower.
     ensures sources { Pairwise (KeepsSource S.nature S.faults) sources.items result.sources.items }
     ensures disk { KeepsDisk D.nature D.faults disk result.disk }
 
     // A refusal ahead of the attach leaves the sources as they were, and one ahead of the mount the disk.
-    ensures unread { IsAheadOfAttach result.status → result.sources.items ≡ sources.items }
-    ensures untouched { IsAheadOfMount result.status → result.disk ≡ disk }
+    ensures unread { IsAheadOf attach result.status → result.sources.items ≡ sources.items }
+    ensures untouched { IsAheadOf mount result.status → result.disk ≡ disk }
 
-    // Done leaves the report of the whole image, as far as sources and disk tell.
-    ensures done { IsDone (words_of (texts words.now)) (image_told S.nature sources.items (words_of (texts words.now)))
-        (D.nature disk) (D.files result.disk) result.status }
+    // No slot but those of the parts is attached. Behind the mount the disk is mounted. No file but those of
+    // the report differs, and none where the image could not be read.
+    ensures slots { AllByRecursion (λ s. OnlyParts (words_of (texts words.now)) (S.slots s)) result.sources.items }
+    ensures mounted { IsBehind mount result.status → D.mounted result.disk ≡ true }
+    ensures others { KeepsOthers (D.nature disk) (D.files disk) (D.files result.disk) }
+    ensures unwritten { IfReadFault result.status (D.files result.disk ≡ D.files disk) }
 
-    // Each refusal has its cause, and each cause that is seen first is refused.
-    ensures causes { HasCauses (words_of (texts words.now)) (image_told S.nature sources.items (words_of (texts words.now)))
-        (first_slot S.slots result.sources.items) (SourceRose S.faults sources.items result.sources.items)
-        (Rose (D.faults disk) (D.faults result.disk)) result.status }
-    ensures exact { IsExact (words_of (texts words.now)) (image_told S.nature sources.items (words_of (texts words.now)))
-        (first_slot S.slots result.sources.items) result.status }
-
-    // A lawful scan of a form that is built, over objects that don't fail, is done or wants memory.
-    ensures complete { IsComplete (words_of (texts words.now)) (image_told S.nature sources.items (words_of (texts words.now)))
-        (first_slot S.slots result.sources.items) (SourceRose S.faults sources.items result.sources.items)
-        (Rose (D.faults disk) (D.faults result.disk)) result.status }
+    // Done leaves the report of the whole image; each refusal has its cause, and each cause that is seen
+    // first is refused; one lawful part over objects that don't fail is done, or wants memory.
+    ensures answers { Answers (call_of S.nature S.slots S.faults D.nature D.files D.faults
+        (words_of (texts words.now)) sources.items result.sources.items disk result.disk) result.status }
 {
     let mut sources = sources;
     let mut disk = disk;
@@ -81,18 +78,21 @@ fn scan_words<S: Source, D: Disk>(
     requires words { length words.now < 2 ^ 32 }
     requires ready { IsReady S.nature S.slots (words_of (texts words.now)) source.old }
     requires unmounted { D.mounted disk.old ≡ false }
-    requires asked { IfOk (words_of (texts words.now)) (λ scan. IsTrue ((D.nature disk.old).may_mount scan.place)) }
+    requires asked { IfOk (words_of (texts words.now)) (λ scan. IsTrue ((D.nature disk.old).may_mount scan.out)) }
     ensures source { KeepsSource S.nature S.faults source.old source.new }
     ensures disk { KeepsDisk D.nature D.faults disk.old disk.new }
-    ensures unread { IsAheadOfAttach result → source.new ≡ source.old }
-    ensures untouched { IsAheadOfMount result → disk.new ≡ disk.old }
-    ensures done { IsDone (words_of (texts words.now)) (image_named (told (S.nature source.old)) (words_of (texts words.now)))
-        (D.nature disk.old) (D.files disk.new) result }
-    ensures causes { HasCauses (words_of (texts words.now)) (image_named (told (S.nature source.old)) (words_of (texts words.now)))
-        (S.slots source.new 0) (Rose (S.faults source.old) (S.faults source.new))
-        (Rose (D.faults disk.old) (D.faults disk.new)) result }
-    ensures exact { IsExact (words_of (texts words.now)) (image_named (told (S.nature source.old)) (words_of (texts words.now)))
-        (S.slots source.new 0) result }
+    ensures unread { IsAheadOf attach result → source.new ≡ source.old }
+    ensures untouched { IsAheadOf mount result → disk.new ≡ disk.old }
+    ensures slots { OnlyParts (words_of (texts words.now)) (S.slots source.new) }
+    ensures mounted { IsBehind mount result → D.mounted disk.new ≡ true }
+    ensures others { KeepsOthers (D.nature disk.old) (D.files disk.old) (D.files disk.new) }
+    ensures unwritten { IfReadFault result (D.files disk.new ≡ D.files disk.old) }
+    ensures cause { let call = call_of S.nature S.slots S.faults D.nature D.files D.faults
+        (words_of (texts words.now)) (source.old ∷ []) (source.new ∷ []) disk.old disk.new in IsCause call result }
+    ensures exact { let call = call_of S.nature S.slots S.faults D.nature D.files D.faults
+        (words_of (texts words.now)) (source.old ∷ []) (source.new ∷ []) disk.old disk.new in IsExact call result }
+    ensures parts { let call = call_of S.nature S.slots S.faults D.nature D.files D.faults
+        (words_of (texts words.now)) (source.old ∷ []) (source.new ∷ []) disk.old disk.new in HasParts call result }
 {
     let scan = match read_words(words) {
         Ok(scan) => scan,
@@ -104,9 +104,8 @@ fn scan_words<S: Source, D: Disk>(
         }
     };
     let [part] = scan.parts else {
-        return Status::NotYet {
-            what: Unbuilt::Parts,
-        };
+        let what = Unbuilt::Parts;
+        return Status::NotYet { what };
     };
-    scan_part(alloc, part.as_str(), scan.place.as_str(), source, disk)
+    scan_part(alloc, part.as_str(), scan.out.as_str(), source, disk)
 }

@@ -1,7 +1,7 @@
 // The bytes of the image, read whole.
 ghost use Rattle.std.specs.Prelude.{◌≡◌, ◌≤◌, ◌<◌, ◌^◌, ℕ, length, IfOk, IfErr, IfSome, IsSomeAnd};
 ghost use Rattle.host_source.specs.Source.{told_at};
-ghost use Rattle.triage_run.specs.Outcome.{KeepsSource};
+ghost use Rattle.triage_run.specs.Kept.{KeepsSource};
 ghost use Rattle.triage_run.specs.Image.{IsReadCause};
 
 use host_source::Source;
@@ -23,7 +23,7 @@ pub fn read_image<S: Source>(alloc: Global, source: &mut S, size: u64) -> Result
     ensures source { KeepsSource S.nature S.faults source.old source.new }
     ensures slots { S.slots source.new ≡ S.slots source.old }
     ensures image { IfOk result (λ image. IfSome (told_at (S.nature source.old) (S.slots source.old) 0) (λ bytes. image.items ≡ bytes)) }
-    ensures cause { IfErr result (IsReadCause (S.faults source.old) (S.faults source.new)) }
+    ensures cause { IfErr result (IsReadCause size (S.faults source.old) (S.faults source.new)) }
 {
     let mut image = Vec::new(alloc);
     if image.resize(size as usize, 0).is_err() {

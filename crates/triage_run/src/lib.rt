@@ -7,22 +7,22 @@
 //! or wants memory.
 //!
 //! A call goes from `call` (words and sources) by `scan` (one part: attach, size, mount) to `image`
-//! (the read), `feature_text` (what is found, as the texts of files) and `report` (the files written).
+//! (the read) and `report` (what is found, and the files).
 #![tactic(auto)]
 
 mod call;
-mod feature_text;
 mod image;
+mod plan;
 mod report;
 mod scan;
 mod status;
 mod words;
 
 pub use call::{Outcome, triage};
-pub use feature_text::CONTEXT_BYTES;
-pub use report::{DOMAIN_FILE, URL_FILE};
+pub use plan::{CONTEXT_BYTES, PAGE_BYTES, SCANNERS_BUILT, WORD_FEWEST, WORD_MOST};
 pub use scan::IMAGE_MOST;
 pub use status::{ReadPlace, Status, Unbuilt, Why};
+pub use words::PLACES_MOST;
 
 #[cfg(test)]
 mod tests;

@@ -1,47 +1,60 @@
-// The report files, written to a mounted disk.
-ghost use Rattle.std.specs.Prelude.{◌≡◌, ◌≢◌, ℕ, ◌<◌, IsTrue, OnOk, length, true};
-ghost use Rattle.byte_kit.specs.Places.{put};
-ghost use Rattle.host_disk.specs.Disk.{HasDiskCause};
+// The report of an image in memory: what is found in it, its classes, and its files.
+ghost use Rattle.std.specs.Prelude.{◌≡◌, ◌<◌, ◌^◌, [], length, map, true, Some, IfOk, IsTrue, OnOk};
+ghost use Rattle.scan_set.specs.Here.{features_of};
+ghost use Rattle.stop_lists.specs.Lists.{classed_by};
+ghost use Rattle.report_publish.specs.Faults.{HasPublishCause};
+ghost use Rattle.triage_run.specs.Case.{plan_built, LeavesReport};
+ghost use Rattle.triage_run.specs.Kept.{KeepsOthers};
 
-use crate::feature_text::FeatureTexts;
-use host_disk::{Disk, DiskFault};
+use crate::plan::plan_built;
+use byte_kit::NoMemory;
+use forensic_path::{Class, Classed, Feature};
+use host_disk::Disk;
+use report_publish::{PublishFault, publish_items};
+use sbuf_nest::Sbuf;
+use scan_set::{ScanPlan, Tools, scan_owned};
+use std::alloc::Global;
 
-/// The number of the file of the URLs.
-pub const URL_FILE: u32 = 1;
-
-/// The number of the file of the domains.
-pub const DOMAIN_FILE: u32 = 2;
-
-// The least length in bytes that a disk's file can't have.
-const FILE_END: usize = 1 << 62;
-
-/// Writes the files that are built, one after the other.
-pub fn write_report<D: Disk>(disk: &mut D, texts: &FeatureTexts) -> Result<(), DiskFault>
+/// Writes the report of an image to a mounted disk.
+pub fn write_report<D: Disk>(
+    alloc: Global,
+    image: &[u8],
+    disk: &mut D,
+) -> Result<(), PublishFault>
     requires open { D.mounted disk.old ≡ true }
-    ensures same { D.nature disk.new ≡ D.nature disk.old }
-    ensures urls { IsTrue (D.nature disk.old).tells → OnOk result (D.files disk.new URL_FILE ≡ texts.now.urls.items) }
-    ensures domains { IsTrue (D.nature disk.old).tells → OnOk result (D.files disk.new DOMAIN_FILE ≡ texts.now.domains.items) }
-    ensures cause { HasDiskCause (D.faults disk.old) (D.faults disk.new) true result }
-{
-    write_file(disk, URL_FILE, texts.urls.as_slice())?;
-    write_file(disk, DOMAIN_FILE, texts.domains.as_slice())
-}
-
-// Makes the text the whole content of a file: cuts it, writes it and syncs it. A text of 2^62 bytes or
-// more is not written, and wants memory.
-fn write_file<D: Disk>(disk: &mut D, number: u32, text: &[u8]) -> Result<(), DiskFault>
-    requires open { D.mounted disk.old ≡ true }
-    requires file { number < 64 }
+    requires small { length image.now < 2 ^ 63 }
     ensures same { D.nature disk.new ≡ D.nature disk.old }
     ensures stays { D.mounted disk.new ≡ true }
-    ensures written { IsTrue (D.nature disk.old).tells → OnOk result (D.files disk.new number ≡ text.now) }
-    ensures others { IsTrue (D.nature disk.old).tells → (file : ℕ) → file ≢ number → OnOk result (D.files disk.new file ≡ D.files disk.old file) }
-    ensures cause { HasDiskCause (D.faults disk.old) (D.faults disk.new) true result }
+    ensures report { OnOk result (LeavesReport (Some image.now) (D.nature disk.old).tells (D.files disk.new)) }
+    ensures others { KeepsOthers (D.nature disk.old) (D.files disk.old) (D.files disk.new) }
+    ensures cause { HasPublishCause (D.faults disk.old) (D.faults disk.new) result }
 {
-    if text.len() >= FILE_END {
-        return Err(DiskFault::NoMemory);
-    }
-    disk.cut(number, 0)?;
-    disk.write_at(number, 0, text)?;
-    disk.sync(number)
+    let plan = plan_built(alloc);
+    let Ok(items) = items_in(alloc, image, &plan) else {
+        return Err(PublishFault::NoMemory);
+    };
+    publish_items(alloc, disk, items.as_slice(), plan.scanners)
+}
+
+// The features of an image, each with its class. Its one refusal is want of memory.
+fn items_in(alloc: Global, image: &[u8], plan: &ScanPlan) -> Result<Vec<Classed>, NoMemory>
+    requires plan { plan.now ≡ plan_built }
+    requires small { length image.now < 2 ^ 63 }
+    ensures { IfOk result (λ items. items.items ≡ classed_by [] [] (features_of [] plan_built image.now)) }
+{
+    let mut tools = Tools::make(alloc, plan)?;
+    let sb = Sbuf::of(image, 0, image.len(), 0);
+    let features = scan_owned(&sb, plan, &mut tools)?;
+    classed(alloc, features)
+}
+
+// Each feature with its class, which is plain: there are no lists.
+fn classed(alloc: Global, features: Vec<Feature>) -> Result<Vec<Classed>, NoMemory>
+    ensures { IfOk result (λ items. items.items ≡ map (λ item. record { class = Class.Plain; item = item }) features.items) }
+{
+    let class = Class::Plain;
+    Ok(features
+        .into_iter()
+        .map(|item| Classed { class, item })
+        .collect(alloc)?)
 }

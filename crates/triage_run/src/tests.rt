@@ -1,12 +1,12 @@
-ghost use Rattle.std.specs.Prelude.{◌≡◌, ◌<◌, ◌^◌, false, length};
+ghost use Rattle.std.specs.Prelude.{◌≡◌, ◌<◌, ◌≤◌, ◌^◌, false, length, vec_len, IfOk};
 ghost use Rattle.host_source.specs.Source.{IsDetached};
 ghost use Rattle.host_source.specs.MemSource.{mem_slots};
 ghost use Rattle.host_disk.specs.MemDisk.{mem_mounted};
 
-use crate::{DOMAIN_FILE, Outcome, ReadPlace, Status, URL_FILE, Unbuilt, Why, triage};
+use crate::{Outcome, PLACES_MOST, ReadPlace, Status, Unbuilt, Why, triage};
 use byte_kit::NoMemory;
-use host_disk::{MemDisk, SureDisk};
-use host_source::MemSource;
+use host_disk::{DiskCall, MemDisk, SureDisk};
+use host_source::{MemSource, SourceCall};
 use std::alloc::Global;
 use std::test::Fail;
 
@@ -16,11 +16,19 @@ const URL_HEADER: &str =
 const DOMAIN_HEADER: &str =
     "# triage feature file, format 1\n# file: domain.txt\n# columns: path, feature, context\n";
 
+// The most words of a call in these tests.
+const WORDS_MOST: usize = 100;
+
 // The words as `triage` takes them.
-fn texts(alloc: Global, words: &[&str]) -> Result<Vec<String>, NoMemory> {
+fn texts(alloc: Global, words: &[&str]) -> Result<Vec<String>, NoMemory>
+    ensures { IfOk result (λ texts. vec_len texts ≤ WORDS_MOST) }
+{
     let mut texts = Vec::new(alloc);
     for word in words {
         texts.push(String::from_str(alloc, word)?)?;
+    }
+    if texts.len() > WORDS_MOST {
+        return Err(NoMemory);
     }
     Ok(texts)
 }
@@ -28,17 +36,17 @@ fn texts(alloc: Global, words: &[&str]) -> Result<Vec<String>, NoMemory> {
 // A call over a source and a disk in memory.
 fn call(
     alloc: Global,
-    words: &[String],
+    words: &[&str],
     source: MemSource,
     disk: MemDisk,
 ) -> Result<Outcome<MemSource, MemDisk>, NoMemory>
-    requires words { length words.now < 2 ^ 32 }
     requires detached { IsDetached (mem_slots source) }
     requires unmounted { mem_mounted disk ≡ false }
 {
+    let words = texts(alloc, words)?;
     let mut sources = Vec::new(alloc);
     sources.push(source)?;
-    Ok(triage(alloc, words, sources, disk))
+    Ok(triage(alloc, words.as_slice(), sources, disk))
 }
 
 // A scan of the image `i` into `o`, in which these calls of the source and of the disk fail.
@@ -50,16 +58,12 @@ fn scan(
 ) -> Result<Outcome<MemSource, MemDisk>, NoMemory>
     requires { length image.now < 2 ^ 57 }
 {
-    let words = texts(alloc, &["scan", "i", "o"])?;
     let mut source = MemSource::make(alloc);
     source.add("i", image)?;
     source.fail_calls(source_fails)?;
     let mut disk = MemDisk::make(alloc);
     disk.fail_calls(disk_fails)?;
-    if words.len() != 3 {
-        return Err(NoMemory);
-    }
-    call(alloc, words.as_slice(), source, disk)
+    call(alloc, &["scan", "i", "o"], source, disk)
 }
 
 // The text of a file with this header and these lines.
@@ -109,17 +113,9 @@ fn each_url_and_each_domain_has_a_line_at_its_place(rt: HostRuntime) -> Result<(
         let outcome = scan(alloc, image.as_bytes(), &[], &[])?;
         assert_eq!(rt; outcome.status, Status::Done, "at {image:?}");
         let want = file_of(alloc, URL_HEADER, urls)?;
-        assert_eq!(rt;
-            outcome.disk.file(URL_FILE),
-            want.as_bytes(),
-            "at {image:?}"
-        );
+        assert_eq!(rt; outcome.disk.file(1), want.as_bytes(), "at {image:?}");
         let want = file_of(alloc, DOMAIN_HEADER, domains)?;
-        assert_eq!(rt;
-            outcome.disk.file(DOMAIN_FILE),
-            want.as_bytes(),
-            "at {image:?}"
-        );
+        assert_eq!(rt; outcome.disk.file(2), want.as_bytes(), "at {image:?}");
     }
     Ok(())
 }
@@ -128,9 +124,7 @@ fn each_url_and_each_domain_has_a_line_at_its_place(rt: HostRuntime) -> Result<(
 fn a_url_is_cut_at_2048_bytes(rt: HostRuntime) -> Result<(), Fail> {
     let alloc = rt.alloc();
     let mut image = Vec::from_slice(alloc, b"http://")?;
-    for _ in 0..2041 {
-        image.push(b'a')?;
-    }
+    image.resize(2048, b'a')?;
     let mut want = String::from_str(alloc, URL_HEADER)?;
     want.push_str("0\thttp://")?;
     for _ in 0..2041 {
@@ -148,16 +142,35 @@ fn a_url_is_cut_at_2048_bytes(rt: HostRuntime) -> Result<(), Fail> {
         assert!(rt; image.len() < 3000);
         let outcome = scan(alloc, image.as_slice(), &[], &[])?;
         assert_eq!(rt; outcome.status, Status::Done);
-        assert_eq!(rt; outcome.disk.file(URL_FILE), want.as_bytes());
+        assert_eq!(rt; outcome.disk.file(1), want.as_bytes());
         image.push(b'a')?;
     }
+    Ok(())
+}
+
+// As many features as the largest image holds of short ones, and a report of some 7 MiB.
+#[test]
+fn an_image_may_be_full_of_urls(rt: HostRuntime) -> Result<(), Fail> {
+    let alloc = rt.alloc();
+    let mut image = Vec::new(alloc);
+    for _ in 0..131_072 {
+        image.extend_from_slice(b"ftp://a ")?;
+    }
+    assert!(rt; image.len() == 1_048_576);
+    let outcome = scan(alloc, image.as_slice(), &[], &[])?;
+    assert_eq!(rt; outcome.status, Status::Done);
+    let urls = outcome.disk.file(1);
+    assert_eq!(rt; urls.iter().filter(|byte| **byte == b'\n').count(), 3 + 131_072);
+    assert_eq!(rt; urls.len(), 7_201_178);
+    assert_eq!(rt; outcome.disk.file(2), DOMAIN_HEADER.as_bytes());
     Ok(())
 }
 
 #[test]
 fn words_are_judged_from_left_to_right(rt: HostRuntime) -> Result<(), Fail> {
     let alloc = rt.alloc();
-    let rows: [(&[&str], u32, Why); 7] = [
+    let full = ["scan"; PLACES_MOST + 2];
+    let rows: [(&[&str], u32, Why); 8] = [
         (&[], 0, Why::NoCommand),
         (&["scam", "i", "o"], 0, Why::UnknownCommand),
         (&["--help"], 0, Why::UnknownCommand),
@@ -165,157 +178,157 @@ fn words_are_judged_from_left_to_right(rt: HostRuntime) -> Result<(), Fail> {
         (&["scan", "i"], 2, Why::PlaceMissing),
         (&["scan", "-x", "i", "o"], 1, Why::UnknownOption),
         (&["scan", "--page", "511", "i", "o"], 1, Why::UnknownOption),
+        (full.as_slice(), 66, Why::TooMany),
     ];
     for (words, word, why) in rows {
-        let words = texts(alloc, words)?;
-        assert!(rt; words.len() < 100);
-        let outcome = call(
-            alloc,
-            words.as_slice(),
-            MemSource::make(alloc),
-            MemDisk::make(alloc),
-        )?;
+        let outcome = call(alloc, words, MemSource::make(alloc), MemDisk::make(alloc))?;
         assert_eq!(rt; outcome.status, Status::Usage { word, why });
         assert_eq!(rt; outcome.status.number(), 2);
-        assert!(rt; !outcome.disk.is_mounted());
     }
-    Ok(())
-}
-
-#[test]
-fn there_are_at_most_65_place_words(rt: HostRuntime) -> Result<(), Fail> {
-    let alloc = rt.alloc();
-    let mut words = texts(alloc, &["scan"])?;
-    for _ in 0..65 {
-        words.push(String::from_str(alloc, "p")?)?;
-    }
-    for want in [
-        Status::NotYet {
-            what: Unbuilt::Parts,
-        },
-        Status::Usage {
-            word: 66,
-            why: Why::TooMany,
-        },
-    ] {
-        assert!(rt; words.len() < 100);
-        let outcome = call(
-            alloc,
-            words.as_slice(),
-            MemSource::make(alloc),
-            MemDisk::make(alloc),
-        )?;
-        assert_eq!(rt; outcome.status, want);
-        words.push(String::from_str(alloc, "p")?)?;
-    }
+    let outcome = call(
+        alloc,
+        full.split_at(PLACES_MOST + 1).0,
+        MemSource::make(alloc),
+        MemDisk::make(alloc),
+    )?;
+    let what = Unbuilt::Parts;
+    assert_eq!(rt; outcome.status, Status::NotYet { what });
+    assert_eq!(rt; outcome.status.number(), 15);
+    assert_eq!(rt; outcome.disk.calls(), [].as_slice());
     Ok(())
 }
 
 #[test]
 fn a_folder_may_begin_with_a_dash(rt: HostRuntime) -> Result<(), Fail> {
     let alloc = rt.alloc();
-    let words = texts(alloc, &["scan", "i", "-x"])?;
-    assert!(rt; words.len() < 100);
     let mut source = MemSource::make(alloc);
     source.add("i", b"ftp://a")?;
-    let outcome = call(alloc, words.as_slice(), source, MemDisk::make(alloc))?;
+    let outcome = call(alloc, &["scan", "i", "-x"], source, MemDisk::make(alloc))?;
     assert_eq!(rt; outcome.status, Status::Done);
     Ok(())
 }
 
 #[test]
-fn forms_that_are_not_built_leave_the_disk_alone(rt: HostRuntime) -> Result<(), Fail> {
+fn an_image_may_have_1048576_bytes_and_no_more(rt: HostRuntime) -> Result<(), Fail> {
     let alloc = rt.alloc();
-    let words = texts(alloc, &["scan", "a", "b", "o"])?;
-    assert!(rt; words.len() < 100);
-    let outcome = call(
-        alloc,
-        words.as_slice(),
-        MemSource::make(alloc),
-        MemDisk::make(alloc),
-    )?;
-    assert_eq!(rt;
-        outcome.status,
-        Status::NotYet {
-            what: Unbuilt::Parts
-        }
-    );
-    assert_eq!(rt; outcome.status.number(), 15);
-    assert!(rt; !outcome.disk.is_mounted());
-
     let mut image = Vec::new(alloc);
     image.resize(1_048_576, 0)?;
     let outcome = scan(alloc, image.as_slice(), &[], &[])?;
     assert_eq!(rt; outcome.status, Status::Done);
-    assert_eq!(rt; outcome.disk.file(URL_FILE), URL_HEADER.as_bytes());
+    assert_eq!(rt; outcome.disk.file(1), URL_HEADER.as_bytes());
 
     image.push(0)?;
     assert!(rt; image.len() < 2_000_000);
     let outcome = scan(alloc, image.as_slice(), &[], &[])?;
-    assert_eq!(rt;
-        outcome.status,
-        Status::NotYet {
-            what: Unbuilt::Size(1_048_577)
+    let what = Unbuilt::Size(1_048_577);
+    assert_eq!(rt; outcome.status, Status::NotYet { what });
+    assert_eq!(rt; outcome.disk.calls(), [].as_slice());
+    Ok(())
+}
+
+const ATTACH: SourceCall = SourceCall::Attach { slot: 0 };
+
+const READ: SourceCall = SourceCall::Read {
+    slot: 0,
+    at: 0,
+    bytes: 7,
+};
+
+// The calls of the disk in a scan of `ftp://a`: both files are cut, then written, then synced.
+const WRITES: [DiskCall; 7] = [
+    DiskCall::Mount,
+    DiskCall::Cut { file: 1, to: 0 },
+    DiskCall::Cut { file: 2, to: 0 },
+    DiskCall::Write {
+        file: 1,
+        at: 0,
+        bytes: 100,
+    },
+    DiskCall::Write {
+        file: 2,
+        at: 0,
+        bytes: 85,
+    },
+    DiskCall::Sync { file: 1 },
+    DiskCall::Sync { file: 2 },
+];
+
+// A fault ends the scan at its call: no call is made again, and none behind it.
+#[test]
+fn a_scan_makes_these_calls_and_no_others(rt: HostRuntime) -> Result<(), Fail> {
+    let alloc = rt.alloc();
+    let image = ReadPlace::Image;
+    let page = ReadPlace::Page(0);
+    let rows: [(&[u64], &[u64], Status, usize, usize); 11] = [
+        (&[], &[], Status::Done, 2, 7),
+        (&[0], &[], Status::ReadFault { place: image }, 1, 0),
+        (&[1], &[], Status::ReadFault { place: page }, 2, 1),
+        (&[], &[0], Status::DiskFault, 1, 1),
+        (&[], &[1], Status::DiskFault, 2, 2),
+        (&[], &[2], Status::DiskFault, 2, 3),
+        (&[], &[3], Status::DiskFault, 2, 4),
+        (&[], &[4], Status::DiskFault, 2, 5),
+        (&[], &[5], Status::DiskFault, 2, 6),
+        (&[], &[6], Status::DiskFault, 2, 7),
+        (&[2], &[7], Status::Done, 2, 7),
+    ];
+    for (source_fails, disk_fails, status, reads, writes) in rows {
+        let outcome = scan(alloc, b"ftp://a", source_fails, disk_fails)?;
+        assert_eq!(rt; outcome.status, status);
+        let reads = [ATTACH, READ].split_at(reads.min(2)).0;
+        for source in outcome.sources.iter() {
+            assert_eq!(rt; source.calls(), reads, "at {status:?}");
         }
-    );
-    assert!(rt; !outcome.disk.is_mounted());
-    assert_eq!(rt; outcome.disk.writes(), 0);
-    Ok(())
-}
-
-#[test]
-fn a_fault_of_the_source_names_what_was_not_read(rt: HostRuntime) -> Result<(), Fail> {
-    let alloc = rt.alloc();
-    let rows = [(0, ReadPlace::Image), (1, ReadPlace::Page(0))];
-    for (call, place) in rows {
-        let outcome = scan(alloc, b"ftp://a", &[call], &[])?;
-        assert_eq!(rt; outcome.status, Status::ReadFault { place });
-        assert_eq!(rt; outcome.status.number(), 4);
-        assert_eq!(rt; outcome.disk.writes(), 0);
+        let writes = WRITES.split_at(writes.min(7)).0;
+        assert_eq!(rt; outcome.disk.calls(), writes, "at {status:?}");
     }
     Ok(())
 }
 
-// The calls are the mount, and for each file the cut, the write and the sync: a report that isn't
-// synced isn't done.
 #[test]
-fn a_fault_of_the_disk_at_any_call_ends_the_scan(rt: HostRuntime) -> Result<(), Fail> {
-    let alloc = rt.alloc();
-    let rows = [(0, 0), (1, 1), (2, 2), (3, 2), (4, 3), (5, 4), (6, 4)];
-    for (call, writes) in rows {
-        let outcome = scan(alloc, b"ftp://a", &[], &[call])?;
-        assert_eq!(rt; outcome.status, Status::DiskFault, "at {call}");
-        assert_eq!(rt; outcome.status.number(), 8);
-        assert_eq!(rt; outcome.disk.writes(), writes, "at {call}");
-    }
-    let outcome = scan(alloc, b"ftp://a", &[], &[7])?;
+fn an_empty_image_is_not_read(rt: HostRuntime) -> Result<(), Fail> {
+    let outcome = scan(rt.alloc(), b"", &[], &[])?;
     assert_eq!(rt; outcome.status, Status::Done);
-    assert_eq!(rt; outcome.status.number(), 0);
+    for source in outcome.sources.iter() {
+        assert_eq!(rt; source.calls(), [ATTACH].as_slice());
+    }
     Ok(())
+}
+
+#[test]
+fn each_status_has_its_number(rt: HostRuntime) {
+    let image = ReadPlace::Image;
+    let rows = [
+        (Status::Done, 0),
+        (Status::ReadFault { place: image }, 4),
+        (Status::DiskFault, 8),
+        (Status::NoMemory, 14),
+    ];
+    for (status, number) in rows {
+        assert_eq!(rt; status.number(), number);
+    }
 }
 
 // A call over two sources in memory that hold nothing.
-fn call_with_two(alloc: Global, words: &[String]) -> Result<Outcome<MemSource, SureDisk>, NoMemory>
-    requires { length words.now < 2 ^ 32 }
-{
+fn call_with_two(alloc: Global, words: &[&str]) -> Result<Outcome<MemSource, SureDisk>, NoMemory> {
+    let words = texts(alloc, words)?;
     let mut sources = Vec::new(alloc);
     sources.push(MemSource::make(alloc))?;
     sources.push(MemSource::make(alloc))?;
-    Ok(triage(alloc, words, sources, SureDisk::make(alloc)))
+    Ok(triage(
+        alloc,
+        words.as_slice(),
+        sources,
+        SureDisk::make(alloc),
+    ))
 }
 
 #[test]
 fn every_source_comes_back(rt: HostRuntime) -> Result<(), Fail> {
-    let words = texts(rt.alloc(), &["scan", "i", "o"])?;
-    assert!(rt; words.len() < 100);
-    let outcome = call_with_two(rt.alloc(), words.as_slice())?;
-    assert_eq!(rt;
-        outcome.status,
-        Status::ReadFault {
-            place: ReadPlace::Image
-        }
-    );
+    let outcome = call_with_two(rt.alloc(), &["scan", "i", "o"])?;
+    let place = ReadPlace::Image;
+    assert_eq!(rt; outcome.status, Status::ReadFault { place });
     assert_eq!(rt; outcome.sources.len(), 2);
-    assert!(rt; outcome.disk.file(URL_FILE).is_empty());
+    assert!(rt; outcome.disk.file(1).is_empty());
     Ok(())
 }

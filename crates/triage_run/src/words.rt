@@ -12,7 +12,7 @@ pub const PLACES_MOST: usize = 65;
 #[derive(Clone, Copy)]
 pub struct Scan<'a> {
     pub parts: &'a [String],
-    pub place: &'a String,
+    pub out: &'a String,
 }
 
 /// A bad word, counted from 0.
@@ -26,7 +26,7 @@ pub struct BadWord {
 /// end is named with the number of words.
 pub fn read_words(words: &[String]) -> Result<Scan<'_>, BadWord>
     requires { length words.now < 2 ^ 32 }
-    ensures scan { IfOk result (λ scan. words_of (texts words.now) ≡ Ok (record { parts = texts scan.parts.now; place = string_bytes scan.place.now })) }
+    ensures scan { IfOk result (λ scan. words_of (texts words.now) ≡ Ok (record { parts = texts scan.parts.now; out = string_bytes scan.out.now })) }
     ensures some { IfOk result (λ scan. 1 ≤ length scan.parts.now) }
     ensures bad { IfErr result (λ bad. words_of (texts words.now) ≡ Err (record { word = bad.word; why = bad.why })) }
 {
@@ -50,7 +50,7 @@ pub fn read_words(words: &[String]) -> Result<Scan<'_>, BadWord>
     }
     if places.len() > PLACES_MOST {
         return Err(BadWord {
-            word: 66,
+            word: PLACES_MOST as u32 + 1,
             why: Why::TooMany,
         });
     }
@@ -72,12 +72,12 @@ fn read_places(places: &[String]) -> Result<Scan<'_>, BadWord>
     requires { length places.now ≤ PLACES_MOST }
     ensures enough { OnOk result (2 ≤ length places.now) }
     ensures parts { IfOk result (λ scan. texts scan.parts.now ≡ take (length places.now - 1) (texts places.now)) }
-    ensures place { IfOk result (λ scan. string_bytes scan.place.now ≡ slice_index_or (texts places.now) (length places.now - 1) []) }
+    ensures out { IfOk result (λ scan. string_bytes scan.out.now ≡ slice_index_or (texts places.now) (length places.now - 1) []) }
     ensures few { OnErr result (length places.now < 2) }
     ensures bad { IfErr result (λ bad. bad ≡ record { word = length places.now + 1; why = Why.PlaceMissing }) }
 {
     match places {
-        [parts @ .., place] if !parts.is_empty() => Ok(Scan { parts, place }),
+        [parts @ .., out] if !parts.is_empty() => Ok(Scan { parts, out }),
         _ => Err(BadWord {
             word: places.len() as u32 + 1,
             why: Why::PlaceMissing,

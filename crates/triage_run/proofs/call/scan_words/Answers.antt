@@ -1,11 +1,15 @@
 use Rattle.std.proofs.Common.{◌≡◌, length, arith}
-use Rattle.host_source.specs.Source.{told}
-use Rattle.triage_run.proofs.Calls.{one_text, exact_of_part}
+use Rattle.triage_run.proofs.OnePart.{command_of_one}
 use Rattle.triage_run.proofs.call.scan_words.Goals as goal
+
+pub returns-clause-cause : goal.returns-clause-cause
+returns-clause-cause g c =
+    let one : length c.in-Ok.scan.parts.now ≡ 1 = omega arith in
+    let command = command_of_one _ c.in-Ok.scan.parts.now c.part-item.result _ _ _ c.in-Ok.ensures.scan one c.part-item.is c.as_str.ensures.value c.as_str-2.ensures.value in
+    rw command c.scan_part.ensures.cause
 
 pub returns-clause-exact : goal.returns-clause-exact
 returns-clause-exact g c =
     let one : length c.in-Ok.scan.parts.now ≡ 1 = omega arith in
-    exact_of_part (told (g.S.Source.nature c.args.source.now)) _ _ _ _ _ _ c.in-Ok.ensures.scan
-    (one_text c.in-Ok.scan.parts.now c.part-item.result one c.part-item.is)
-    (rw (← c.as_str.ensures.value) c.scan_part.ensures.size)
+    let command = command_of_one _ c.in-Ok.scan.parts.now c.part-item.result _ _ _ c.in-Ok.ensures.scan one c.part-item.is c.as_str.ensures.value c.as_str-2.ensures.value in
+    rw command c.scan_part.ensures.exact

@@ -1,0 +1,74 @@
+-- What a scan finds and writes is the report of its image: there are no lists.
+use Rattle.std.proofs.Common.{◌≡◌, ◌∙◌, ℕ, ◌+◌, ◌==◌, ◌&&◌, not, Bool, false, List, [], ◌∷◌, filter, length, map, flat_map, true, IsTrue, Option, Some, None, Result, Ok, Err, IfOk, OnOk, subst, ap, sym, refl, arith}
+use Rattle.std.specs.List.{list_all, AllByRecursion}
+use Rattle.std.proofs.lemmas.Bool.{and_parts}
+use Rattle.forensic_path.specs.declared.feature.Class.TheVariants.{Plain}
+use Rattle.forensic_path.specs.declared.feature.Feature.{Feature}
+use Rattle.forensic_path.specs.declared.feature.Classed.{Classed}
+use Rattle.host_disk.specs.Files.{Files}
+use Rattle.scan_set.specs.Here.{features_of, owned}
+use Rattle.scan_set.proofs.Images.{features_owned}
+use Rattle.stop_lists.specs.Lists.{classed_by}
+use Rattle.stop_lists.proofs.NoLists.{all_plain}
+use Rattle.feature_file.specs.Files.{report_files, is_written, is_histogram}
+use Rattle.feature_file.specs.FeatureFile.{file_text}
+use Rattle.report_publish.specs.Publish.{AreWritten}
+use Rattle.report_publish.specs.declared.publish.TheConstants.{FILES_BUILT}
+use Rattle.triage_run.specs.Case.{plan_built, classed_of, report, case_of, no_match, AreReport, LeavesReport}
+use Rattle.triage_run.specs.declared.plan.TheConstants.{SCANNERS_BUILT}
+
+-- the features of a buffer that is the whole image, each with its class
+pub all_classed : (image bytes : List ℕ) (base from count : ℕ) (features : List Feature) →
+    bytes ≡ image → base ≡ 0 → from ≡ 0 → count ≡ length image → features ≡ owned [] plan_built 0 [] bytes base from count →
+    {A E : Type 0} (items : A → List Classed) (answer : Result A E) → IfOk answer (λ a. items a ≡ map (λ item. record { class = Plain; item = item }) features) →
+    IfOk answer (λ a. items a ≡ classed_by [] [] (features_of [] plan_built image))
+all_classed image bytes base from count features b0 b1 b2 b3 found items (Err refusal) plain = tt
+all_classed image bytes base from count features b0 b1 b2 b3 found items (Ok a) plain =
+    plain ∙ ap (map (λ item. record { class = Plain; item = item })) (found ∙ (rw (b0, b1, b2, b3) (sym (features_owned [] plan_built image)))) ∙ sym (all_plain (features_of [] plan_built image))
+
+-- a number of a feature file that is written
+abbrev is_features : ℕ → Bool
+is_features number = not (number == 0) && (is_written number SCANNERS_BUILT && not (is_histogram number))
+
+is_false : (b : Bool) → not b ≡ true → b ≡ false
+is_false true h = cc
+is_false false h = refl
+
+-- its text in the report
+text_of : (image : List ℕ) (number : ℕ) → is_features number ≡ true →
+    report no_match (case_of image) number ≡ Some (file_text number (classed_by [] [] (features_of [] plan_built image)))
+unfolding report classed_of
+text_of image number features =
+    let first = and_parts _ _ features in
+    let second = and_parts _ _ first.1 in
+    let zeroth : (number == 0) ≡ false = is_false _ first.0 in
+    let written : is_written number SCANNERS_BUILT ≡ true = second.0 in
+    let histogram : is_histogram number ≡ false = is_false _ second.1 in
+    rw (zeroth, written, histogram) refl
+
+-- files with the texts of the items are the report, whatever the list of such files
+are_report : (image : List ℕ) (items : List Classed) (files : Files) (numbers : List ℕ) → list_all is_features numbers ≡ true →
+    items ≡ classed_by [] [] (features_of [] plan_built image) →
+    AllByRecursion (λ number. files number ≡ file_text number items) (filter (λ number. is_written number SCANNERS_BUILT) numbers) →
+    AreReport no_match numbers (case_of image) files
+are_report image items files [] features is written = tt
+are_report image items files (number ∷ numbers) features is written =
+    let parts = and_parts _ _ features in
+    let on : is_written number SCANNERS_BUILT ≡ true = (and_parts _ _ (and_parts _ _ parts.0).1).0 in
+    let here = rw on at written in
+    (rw (text_of image number parts.0) (here.0 ∙ ap (file_text number) is), are_report image items files numbers parts.1 is here.1)
+
+-- files with the texts of these items are the report
+leaves_report : (image : List ℕ) (tells : Bool) (items : List Classed) (files : Files) →
+    items ≡ classed_by [] [] (features_of [] plan_built image) → (IsTrue tells → AreWritten SCANNERS_BUILT items files) →
+    LeavesReport (Some image) tells files
+unfolding report_files
+leaves_report image tells items files is written = λ told. are_report image items files FILES_BUILT refl is (written told)
+
+-- the same of files that were written where all went well
+pub report_left : {T E : Type 0} (answer : Result T E) (image : List ℕ) (tells : Bool) (scanners : ℕ) (items : List Classed) (files : Files) →
+    scanners ≡ SCANNERS_BUILT → items ≡ classed_by [] [] (features_of [] plan_built image) →
+    (IsTrue tells → OnOk answer (AreWritten scanners items files)) → OnOk answer (LeavesReport (Some image) tells files)
+report_left (Ok done) image tells scanners items files built is written =
+    leaves_report image tells items files is (subst (λ s. IsTrue tells → AreWritten s items files) built written)
+report_left (Err fault) image tells scanners items files built is written = tt

@@ -1,0 +1,101 @@
+-- What a call saw and left, and which answers this bears.
+use Rattle.std.specs.Prelude.{◌≡◌, ℕ, ◌*◌, ◌<◌, ◌≤◌, Bool, List, length, Option, IsSomeAnd, MatchOption, Result, Ok, Err, IsOk, IsOkAnd, IfOk, IfErr}
+use Rattle.std.specs.List.{AllByRecursion}
+use Rattle.byte_kit.specs.Counts.{Rose}
+use Rattle.host_source.specs.Source.{SourceNature, Slot}
+use Rattle.host_disk.specs.Files.{Files}
+use Rattle.host_disk.specs.Disk.{DiskNature}
+use Rattle.triage_run.specs.declared.scan.TheConstants.{IMAGE_MOST}
+use Rattle.triage_run.specs.declared.plan.TheConstants.{PAGE_BYTES}
+use Rattle.triage_run.specs.declared.status.Status.{Status}
+use Rattle.triage_run.specs.declared.status.Status.TheVariants.{Done, Usage, ReadFault, DiskFault, NoMemory, NotYet}
+use Rattle.triage_run.specs.declared.status.ReadPlace.TheVariants.{Image, Page}
+use Rattle.triage_run.specs.declared.status.Unbuilt.TheVariants.{Parts, Size}
+use Rattle.triage_run.specs.declared.words.BadWord.{BadWord}
+use Rattle.triage_run.specs.Case.{LeavesReport}
+use Rattle.triage_run.specs.Sources.{SourceRose, image_told, first_slots, OnlyParts, AreAttached}
+use Rattle.triage_run.specs.Steps.{attach}
+use Rattle.triage_run.specs.Status.{IsOrEarlier, IsBehind, IsDoneOrNoMemory}
+use Rattle.triage_run.specs.Words.{ScanWords}
+
+-- What a call saw: the command or the first bad word, the bytes of the image where they are told, what
+-- the first source has attached at the end, whether a count of faults rose; and the files that it left
+pub record Call : Type 1 where
+  pub command : Result ScanWords BadWord
+  pub image : Option (List ℕ)
+  pub slots : ℕ → Option Slot
+  pub source_rose : Type 0
+  pub disk_rose : Type 0
+  pub tells : Bool
+  pub files : Files
+
+-- the call of a command over these sources and this disk, which left those
+abbrev pub call_of : {S D : Type 0} → (S → SourceNature) → (S → ℕ → Option Slot) → (S → ℕ) → (D → DiskNature) → (D → Files) → (D → ℕ)
+    → Result ScanWords BadWord → List S → List S → D → D → Call
+call_of nature slots faults disk_nature files disk_faults command sources left disk disk_left = record {
+  command = command;
+  image = image_told nature sources command;
+  slots = first_slots slots left;
+  source_rose = SourceRose faults sources left;
+  disk_rose = Rose (disk_faults disk) (disk_faults disk_left);
+  tells = (disk_nature disk).tells;
+  files = files disk_left;
+}
+
+-- ---- the words and the image of a call
+
+abbrev pub IsOnePart : Call → Type 0
+IsOnePart call = IsOkAnd call.command (λ scan. length scan.parts ≡ 1)
+
+abbrev pub IsManyParts : Call → Type 0
+IsManyParts call = IsOkAnd call.command (λ scan. 1 < length scan.parts)
+
+-- the image has so many bytes: those that are told, or else those of the first slot
+abbrev pub IsImageSize : Call → ℕ → Type 0
+IsImageSize call bytes = MatchOption call.image (IsSomeAnd (call.slots 0) (λ s. bytes ≡ s.size)) (λ image. bytes ≡ length image)
+
+-- the words name one part, and it has so many bytes, which are more than the limit
+pub record IsTooLarge (call : Call) (bytes : ℕ) : Type 0 where
+  pub one : IsOnePart call
+  pub size : IsImageSize call bytes
+  pub large : IMAGE_MOST < bytes
+
+-- the image has a page of this number
+abbrev pub HasPage : Call → ℕ → Type 0
+HasPage call page = (bytes : ℕ) × IsImageSize call bytes × (page * PAGE_BYTES < bytes)
+
+-- ---- the answers
+
+-- each answer comes only where this is so; want of memory alone is free
+abbrev pub IsCause : Call → Status → Type 0
+IsCause call Done = IsOk call.command × LeavesReport call.image call.tells call.files
+IsCause call (Usage word why) = call.command ≡ Err (record { word = word; why = why })
+IsCause call (NotYet Parts) = IsManyParts call
+IsCause call (ReadFault Image) = call.source_rose
+IsCause call (NotYet (Size bytes)) = IsTooLarge call bytes
+IsCause call DiskFault = call.disk_rose
+IsCause call (ReadFault (Page page)) = call.source_rose × HasPage call page
+IsCause call NoMemory = Unit {0}
+
+-- a bad word and a form that isn't built are refused, unless an earlier refusal hides that
+pub record IsExact (call : Call) (status : Status) : Type 0 where
+  pub usage : IfErr call.command (λ bad. IsOrEarlier (Usage bad.word bad.why) status)
+  pub parts : IsManyParts call → IsOrEarlier (NotYet Parts) status
+  pub size : (bytes : ℕ) → IsTooLarge call bytes → IsOrEarlier (NotYet (Size bytes)) status
+
+-- one part within the limit and no count that rose: the call is done, or wants memory
+abbrev pub IsComplete : Call → Status → Type 0
+IsComplete call status =
+    IsOnePart call → ((bytes : ℕ) → IsImageSize call bytes → bytes ≤ IMAGE_MOST)
+    → ¬ call.source_rose → ¬ call.disk_rose → IsDoneOrNoMemory status
+
+-- behind the attach each part has its slot, in order
+abbrev pub HasParts : Call → Status → Type 0
+HasParts call status = IsBehind attach status → IfOk call.command (λ scan. AreAttached call.slots 0 scan.parts)
+
+-- what a call answers is borne by what it saw and left
+pub record Answers (call : Call) (status : Status) : Type 0 where
+  pub cause : IsCause call status
+  pub exact : IsExact call status
+  pub complete : IsComplete call status
+  pub parts : HasParts call status

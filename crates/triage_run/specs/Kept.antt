@@ -1,0 +1,21 @@
+-- What a call leaves as it was.
+use Rattle.std.specs.Prelude.{◌≡◌, ℕ, ◌≤◌, false, IsTrue}
+use Rattle.host_source.specs.Source.{SourceNature}
+use Rattle.host_disk.specs.Files.{Files}
+use Rattle.host_disk.specs.Disk.{DiskNature}
+use Rattle.report_publish.specs.Publish.{is_for}
+use Rattle.triage_run.specs.declared.plan.TheConstants.{SCANNERS_BUILT}
+
+-- a source tells what it told, and its count of faults is no lower
+pub record KeepsSource {S : Type 0} (nature : S → SourceNature) (faults : S → ℕ) (old new : S) : Type 0 where
+  pub same : nature new ≡ nature old
+  pub later : faults old ≤ faults new
+
+-- a disk is of the same kind, and its count of faults is no lower
+pub record KeepsDisk {D : Type 0} (nature : D → DiskNature) (faults : D → ℕ) (old new : D) : Type 0 where
+  pub same : nature new ≡ nature old
+  pub later : faults old ≤ faults new
+
+-- no file differs but those of the report, as far as the disk tells its files
+abbrev pub KeepsOthers : DiskNature → Files → Files → Type 0
+KeepsOthers nature old new = IsTrue nature.tells → (file : ℕ) → is_for SCANNERS_BUILT file ≡ false → new file ≡ old file

@@ -1,0 +1,34 @@
+-- The steps of a scan by number, in their order: a refusal at one hides those of later ones.
+use Rattle.std.specs.Prelude.{ℕ}
+
+-- want of memory may come at any step
+abbrev pub any : ℕ
+any = 0
+
+-- the words are judged
+abbrev pub words : ℕ
+words = 1
+
+-- the number of parts is tested
+abbrev pub parts : ℕ
+parts = 2
+
+-- the parts of the image are attached
+abbrev pub attach : ℕ
+attach = 3
+
+-- the size of the image is tested
+abbrev pub size : ℕ
+size = 4
+
+-- the folder is mounted
+abbrev pub mount : ℕ
+mount = 5
+
+-- the image is read
+abbrev pub read : ℕ
+read = 6
+
+-- the report stands
+abbrev pub end : ℕ
+end = 7

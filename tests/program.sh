@@ -1,0 +1,249 @@
+#!/usr/bin/env bash
+# The built program, run as a user runs it: exit status, both streams, and each byte of every file that
+# stands afterwards, in the output folder and beside it.
+#
+# Run it at the top of the repository, once `rt ci` or `make` has built the program. It prints a line for
+# each case that differs, and ends with 'N passed, M failed'. A case is a folder `have`, in which the program
+# runs, and a folder `want`, which says what must stand there afterwards: whatever else was made, changed or
+# removed shows as a difference.
+set -u
+export LC_ALL=C
+
+cd "$(dirname "$0")/.." || exit 1
+PROGRAM=${TRIAGE:-$PWD/crates/triage/out/triage}
+if [ ! -x "$PROGRAM" ]; then
+    echo "skipped: no program at $PROGRAM"
+    exit 0
+fi
+
+scratch=$(mktemp -d) || exit 1
+trap 'rm -rf "$scratch"' EXIT
+passed=0
+failed=0
+
+URLS='# triage feature file, format 1\n# file: url.txt\n# columns: path, feature, context\n'
+DOMAINS='# triage feature file, format 1\n# file: domain.txt\n# columns: path, feature, context\n'
+
+# Begins a case of this name, with two empty folders.
+begin() {
+    name=$1
+    rm -rf "$scratch/have" "$scratch/want"
+    mkdir "$scratch/have" "$scratch/want"
+    cd "$scratch/have" || exit 1
+}
+
+# Puts a file of this text into both folders: it stands at the beginning, and must stand at the end.
+both() {
+    printf "$2" > "$scratch/have/$1"
+    printf "$2" > "$scratch/want/$1"
+}
+
+# Says that the report must stand in this folder, with these lines of URLs and of domains.
+report() {
+    mkdir -p "$scratch/want/$1"
+    printf "$URLS$2" > "$scratch/want/$1/url.txt"
+    printf "$DOMAINS$3" > "$scratch/want/$1/domain.txt"
+}
+
+# Ends a case: runs the program with these words, which must end with this status, print nothing, and leave
+# what the folder `want` has.
+ends() {
+    local status=$1 got=0 why=
+    shift
+    "$PROGRAM" "$@" > "$scratch/stdout" 2> "$scratch/stderr" < /dev/null || got=$?
+    [ "$got" = "$status" ] || why="status $got, not $status"
+    [ -s "$scratch/stdout" ] && why="$why; it printed"
+    [ -s "$scratch/stderr" ] && why="$why; it printed an error"
+    diff -r "$scratch/have" "$scratch/want" > "$scratch/diff" 2>&1 || why="$why; the folder differs"
+    if [ -z "$why" ]; then
+        passed=$((passed + 1))
+    else
+        failed=$((failed + 1))
+        echo "failed: $name: ${why#; }"
+        head -n 5 "$scratch/diff" | cut -c 1-200
+    fi
+}
+
+SEE='see http://example.com/a b'
+SEE_URL='4\thttp://example.com/a\tsee http://example.com/a b\n'
+SEE_DOMAIN='11\texample.com\tsee http://example.com/a b\n'
+
+# ---- scans that are done
+
+begin 'a scan that is done'
+both image "$SEE"
+report out "$SEE_URL" "$SEE_DOMAIN"
+ends 0 scan image out
+
+begin 'an empty image'
+both image ''
+report out '' ''
+ends 0 scan image out
+
+begin 'a URL in a URL, and bytes that are escaped'
+both image '\0\tHTTP://a.b/?u=http://c.d/\\\n'
+report out '2\tHTTP://a.b/?u=http://c.d/\t\\x00\\x09HTTP://a.b/?u=http://c.d/\\x5C\\x0A\n16\thttp://c.d/\t\\x00\\x09HTTP://a.b/?u=http://c.d/\\x5C\\x0A\n' \
+    '9\ta.b\t\\x00\\x09HTTP://a.b/?u=http://c.d/\\x5C\n23\tc.d\t//a.b/?u=http://c.d/\\x5C\\x0A\n'
+ends 0 scan image out
+
+begin 'a folder whose parents are missing'
+both image "$SEE"
+report new/deep/out "$SEE_URL" "$SEE_DOMAIN"
+ends 0 scan image new/deep/out
+
+begin 'a folder that stands, with other files in it and a longer report'
+both image 'ftp://a'
+report out '0\tftp://a\tftp://a\n' ''
+mkdir out
+printf "$URLS$SEE_URL$SEE_URL" > out/url.txt
+printf "$DOMAINS$SEE_DOMAIN" > out/domain.txt
+both out/ip.txt 'kept'
+both out/spool.bin 'kept too'
+ends 0 scan image out
+
+begin 'names with dots, blanks and a dash'
+both 'a disk..v1.raw' "$SEE"
+report '-out.d' "$SEE_URL" "$SEE_DOMAIN"
+ends 0 scan 'a disk..v1.raw' '-out.d'
+
+begin 'an image that is read-only'
+both image "$SEE"
+chmod 400 image
+report out "$SEE_URL" "$SEE_DOMAIN"
+ends 0 scan image out
+
+begin 'an image at the limit'
+head -c 1048576 /dev/zero > image
+cp image ../want/image
+report out '' ''
+ends 0 scan image out
+
+# ---- words
+
+begin 'no words'
+ends 2
+
+begin 'an unknown command'
+both image "$SEE"
+ends 2 scam image out
+
+begin 'a word for help'
+ends 2 --help
+
+begin 'an option that is not known'
+both image "$SEE"
+ends 2 scan -x image out
+
+begin 'a place that is missing'
+both image "$SEE"
+ends 2 scan image
+
+begin 'two hundred words'
+both image "$SEE"
+ends 2 scan $(yes image | head -n 199)
+
+begin 'a word that is no UTF-8'
+both image "$SEE"
+ends 2 scan image $'out\xff'
+
+# ---- images
+
+begin 'an image that is missing'
+ends 4 scan image out
+
+begin 'a folder as image'
+mkdir image ../want/image
+ends 4 scan image out
+
+begin 'two parts'
+both a 'http://exa'
+both b 'mple.com/a b'
+ends 15 scan a b out
+
+begin 'one byte above the limit'
+head -c 1048577 /dev/zero > image
+cp image ../want/image
+ends 15 scan image out
+
+begin 'an image of 3 MiB'
+head -c 3145728 /dev/zero > image
+cp image ../want/image
+ends 15 scan image out
+
+# ---- the folder and its files
+
+begin 'a folder without a name'
+both image "$SEE"
+ends 8 scan image ''
+
+begin 'a folder that is a file'
+both image "$SEE"
+ends 8 scan image image
+
+begin 'a folder below a file'
+both image "$SEE"
+ends 8 scan image image/out
+
+# A report file that is a link to TARGET: the program must end with a disk fault, and leave the other one in
+# any state.
+linked() {
+    begin "$1 is a link to $2"
+    both image "$SEE"
+    mkdir out ../want/out
+    ln -s "$2" "out/$1"
+    local got=0
+    "$PROGRAM" scan image out > "$scratch/stdout" 2> "$scratch/stderr" < /dev/null || got=$?
+    rm -rf out ../want/out
+    if [ "$got" = 8 ] && [ ! -s "$scratch/stdout" ] && [ ! -s "$scratch/stderr" ] && diff -r "$scratch/have" "$scratch/want"; then
+        passed=$((passed + 1))
+    else
+        failed=$((failed + 1))
+        echo "failed: $name: status $got, not 8, or it printed, or changed the image"
+    fi
+}
+
+# A full disk refuses the bytes; a file of the process's name takes them and can't be synced.
+for file in url.txt domain.txt; do
+    [ -c /dev/full ] && linked "$file" /dev/full
+    [ -w /proc/self/comm ] && linked "$file" /proc/self/comm
+done
+
+# A process that may write no byte: the report files stand empty or not at all.
+begin 'files that may have no bytes'
+both image "$SEE"
+got=0
+(
+    trap '' XFSZ
+    ulimit -f 0
+    exec "$PROGRAM" scan image out
+) > /dev/null 2>&1 || got=$?
+rm -rf out
+if [ "$got" = 8 ] && diff -r "$scratch/have" "$scratch/want"; then
+    passed=$((passed + 1))
+else
+    failed=$((failed + 1))
+    echo "failed: $name: status $got, not 8"
+fi
+
+# ---- memory
+
+# Under the least limit at which an empty image is done, an image of many URLs wants memory.
+begin 'no memory'
+: > empty
+yes 'ftp://a ' | tr -d '\n' | head -c 1048576 > image
+limited() { (ulimit -v "$1" && exec "$PROGRAM" scan "$2" out) > "$scratch/stdout" 2> "$scratch/stderr" < /dev/null; }
+for kib in 4096 6144 8192 12288 16384; do
+    limited "$kib" empty || continue
+    got=0
+    limited "$kib" image || got=$?
+    if [ "$got" = 14 ] && [ ! -s "$scratch/stdout" ] && [ ! -s "$scratch/stderr" ]; then
+        passed=$((passed + 1))
+    else
+        failed=$((failed + 1))
+        echo "failed: $name: status $got, not 14, or it printed"
+    fi
+    break
+done
+
+echo "$passed passed, $failed failed"
+[ "$failed" = 0 ]
