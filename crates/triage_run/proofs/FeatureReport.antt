@@ -42,14 +42,14 @@ alone : (line rest : List ℕ) → line ++ rest ≡ line ++ [] ++ rest
 alone line rest = ap (λ text. text ++ rest) (sym (append-nil line))
 
 urls_of_place : (image : List ℕ) (place : ℕ) (url domain : Option ℕ) (rest : List Feature) →
-    lines_of 1 (features_with image place url domain ++ rest) ≡ lines_in image 1 (marked Url place url ++ marked Domain place domain) ++ lines_of 1 rest
+    lines_of 1 (features_with image place url domain ++ rest) ≡ lines_in image 1 (marked Url 0 place url ++ marked Domain 0 place domain) ++ lines_of 1 rest
 urls_of_place image place None None rest = refl
 urls_of_place image place None (Some m) rest = refl
 urls_of_place image place (Some n) None rest = alone (mark_line image (record { at = place; kind = Url; which = 0; extent = n })) (lines_of 1 rest)
 urls_of_place image place (Some n) (Some m) rest = alone (mark_line image (record { at = place; kind = Url; which = 0; extent = n })) (lines_of 1 rest)
 
 domains_of_place : (image : List ℕ) (place : ℕ) (url domain : Option ℕ) (rest : List Feature) →
-    lines_of 2 (features_with image place url domain ++ rest) ≡ lines_in image 2 (marked Url place url ++ marked Domain place domain) ++ lines_of 2 rest
+    lines_of 2 (features_with image place url domain ++ rest) ≡ lines_in image 2 (marked Url 0 place url ++ marked Domain 0 place domain) ++ lines_of 2 rest
 domains_of_place image place None None rest = refl
 domains_of_place image place (Some n) None rest = refl
 domains_of_place image place None (Some m) rest = alone (mark_line image (record { at = place; kind = Domain; which = 0; extent = m })) (lines_of 2 rest)
@@ -58,7 +58,7 @@ domains_of_place image place (Some n) (Some m) rest = alone (mark_line image (re
 -- what holds of each place holds of all, in order
 all_places : (number : ℕ) (image : List ℕ) →
     ((place : ℕ) (url domain : Option ℕ) (rest : List Feature) →
-    lines_of number (features_with image place url domain ++ rest) ≡ lines_in image number (marked Url place url ++ marked Domain place domain) ++ lines_of number rest) →
+    lines_of number (features_with image place url domain ++ rest) ≡ lines_in image number (marked Url 0 place url ++ marked Domain 0 place domain) ++ lines_of number rest) →
     (places : List ℕ) →
     lines_of number (flat_map (λ place. here [] plan_built zero [] (look_at image place) place) places)
     ≡ lines_in image number (flat_map (λ place. url_marks true true (look_at image place) place) places)

@@ -19,16 +19,16 @@ below-append : (end : ℕ) (a b : List Mark) → AreBelow end a → AreBelow end
 below-append end [] b p q = q
 below-append end (mark ∷ a) b p q = (p.0, below-append end a b p.1 q)
 
-below-marked : (end : ℕ) (what : Kind) (place : ℕ) (found : Option ℕ) → place < end → AreBelow end (marked what place found)
-below-marked end what place None lt = tt
-below-marked end what place (Some extent) lt = (lt, tt)
+below-marked : (end : ℕ) (what : Kind) (which place : ℕ) (found : Option ℕ) → place < end → AreBelow end (marked what which place found)
+below-marked end what which place None lt = tt
+below-marked end what which place (Some extent) lt = (lt, tt)
 
 below-places : (bytes : List ℕ) (end first count : ℕ) → first + count ≤ end →
     AreBelow end (flat_map (λ place. url_marks true true (look_at bytes place) place) (range_with_len first count))
 below-places bytes end first zero within = tt
 below-places bytes end first (suc count) within =
     below-append end _ _
-    (below-append end _ _ (below-marked end _ first (url_of (look_at bytes first)) (omega arith)) (below-marked end _ first (domain_of (look_at bytes first)) (omega arith)))
+    (below-append end _ _ (below-marked end _ 0 first (url_of (look_at bytes first)) (omega arith)) (below-marked end _ 0 first (domain_of (look_at bytes first)) (omega arith)))
     (below-places bytes end (first + 1) count (omega arith))
 
 below-at : (end : ℕ) (marks : List Mark) (i : ℕ) (other : Mark) → AreBelow end marks → i < length marks → (get_or marks i other).at < end
