@@ -1,1 +1,2 @@
 pub mod MarkLists
+pub mod SearchSteps

@@ -1,19 +1,23 @@
 -- What a search of a buffer appends to its list.
-use Rattle.std.specs.Prelude.{◌≡◌, ℕ, ◌-◌, List, [], ◌∷◌, ◌++◌, take, flat_map, Option, Some, None}
+use Rattle.std.specs.Prelude.{◌≡◌, ℕ, ◌-◌, ◌<◌, ◌≤◌, List, [], ◌∷◌, ◌++◌, take, flat_map, Option, Some, None}
 use Rattle.std.specs.List.{range_with_len}
 use Rattle.forensic_path.specs.declared.feature.Kind.{Kind}
 use Rattle.sbuf_nest.specs.Around.{Around, look_at}
 use Rattle.sbuf_nest.specs.declared.mark.Mark.{Mark}
 use Rattle.sbuf_nest.specs.declared.sbuf.Sbuf.{Sbuf}
 
--- the mark of what has this extent at the place, if anything has
-abbrev pub marked : Kind → ℕ → Option ℕ → List Mark
-marked what place None = []
-marked what place (Some extent) = record { at = place; kind = what; which = 0; extent = extent } ∷ []
+-- the mark of what has this extent at the place, if anything has: which one it is of those of its kind
+abbrev pub marked : Kind → ℕ → ℕ → Option ℕ → List Mark
+marked what which place None = []
+marked what which place (Some extent) = record { at = place; kind = what; which = which; extent = extent } ∷ []
 
 -- the marks of so many places from the first on, in order of place; each place is judged by its Look alone
 unfoldable pub marks_of : (Around → ℕ → List Mark) → List ℕ → ℕ → ℕ → List Mark
 marks_of judge bytes first count = flat_map (λ place. judge (look_at bytes place) place) (range_with_len first count)
+
+-- no place from the first up to the end has a mark
+abbrev pub NoneFrom : (Around → ℕ → List Mark) → List ℕ → ℕ → ℕ → Type 0
+NoneFrom judge bytes first end = (place : ℕ) → first ≤ place → place < end → judge (look_at bytes place) place ≡ []
 
 -- the marks of the places that the buffer owns
 abbrev pub owned_marks : (Around → ℕ → List Mark) → Sbuf → List Mark

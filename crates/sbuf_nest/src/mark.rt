@@ -1,5 +1,6 @@
 // What a search finds, and the list that it appends it to.
 ghost use Rattle.std.specs.Prelude.{◌≡◌, [], ◌∷◌, ◌++◌, OnOk, OnErr};
+ghost use Rattle.sbuf_nest.specs.Marks.{marked};
 
 use byte_kit::NoMemory;
 use forensic_path::Kind;
@@ -60,6 +61,29 @@ impl Found {
     {
         self.items.push(mark)?;
         Ok(())
+    }
+
+    /// Appends the mark of what has this extent at place `at`, if anything has. Refused for want of
+    /// memory, it leaves the list as it was.
+    pub fn add_extent(
+        &mut self,
+        at: usize,
+        kind: Kind,
+        which: u16,
+        extent: Option<u32>,
+    ) -> Result<(), NoMemory>
+        ensures added { OnOk result (self.new ≡ self.old ++ marked kind which at extent) }
+        ensures same { OnErr result (self.new ≡ self.old) }
+    {
+        match extent {
+            None => Ok(()),
+            Some(extent) => self.add(Mark {
+                at,
+                kind,
+                which,
+                extent,
+            }),
+        }
     }
 
     /// The marks, lent.

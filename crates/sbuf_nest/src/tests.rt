@@ -1,4 +1,10 @@
-use crate::{Extent, Found, LOOK_AFTER, Mark, Sbuf};
+ghost use Rattle.std.specs.Prelude.{◌≡◌, ◌==◌, [], ◌++◌, false, Some, slice_get, if◌then◌else◌};
+ghost use Rattle.std.specs.Option.{option_map_or};
+ghost use Rattle.forensic_path.specs.declared.feature.Kind.TheVariants.{Find};
+ghost use Rattle.sbuf_nest.specs.Marks.{marked};
+
+use crate::{Found, LOOK_AFTER, Look, Mark, Places, Sbuf, Search, find_marks};
+use byte_kit::NoMemory;
 use forensic_path::Kind;
 use std::test::Fail;
 
@@ -85,11 +91,76 @@ fn marks_stay_in_the_order_in_which_they_were_added(rt: HostRuntime) -> Result<(
     Ok(())
 }
 
+// A search for a byte, with two marks where it stands, that counts the places that it judged.
+#[derive(Drop)]
+struct ByteSearch {
+    byte: u8,
+    judged: u64,
+}
+
+impl Search for ByteSearch {
+    ghost judge = { λ s look place. if option_map_or (λ first. first == s.byte) (slice_get look.after 0) false then marked Find 0 place (Some 1) ++ marked Find 1 place (Some 1) else [] };
+
+    fn next_places(&mut self, sb: &Sbuf, next: usize) -> Option<Places> {
+        for place in next..sb.own_to() {
+            if stands_in(self.byte, &sb.look(place)) {
+                return Some(Places {
+                    from: place,
+                    to: place + 1,
+                });
+            }
+        }
+        None
+    }
+
+    fn add_marks(&mut self, look: &Look, place: usize, found: &mut Found) -> Result<(), NoMemory> {
+        self.judged = self.judged.wrapping_add(1);
+        if !stands_in(self.byte, look) {
+            return Ok(());
+        }
+        found.add_extent(place, Kind::Find, 0, Some(1))?;
+        found.add_extent(place, Kind::Find, 1, Some(1))
+    }
+}
+
+fn stands_in(byte: u8, look: &Look) -> bool
+    ensures { result ≡ option_map_or (λ first. first == byte) (slice_get look.now.after.now 0) false }
+{
+    match look.after.first() {
+        Some(first) => *first == byte,
+        None => false,
+    }
+}
+
+fn find(at: usize, which: u16) -> Mark {
+    Mark {
+        at,
+        kind: Kind::Find,
+        which,
+        extent: 1,
+    }
+}
+
 #[test]
-fn an_extent_has_two_counts(rt: HostRuntime) {
-    let text = Extent {
-        bytes: 66,
-        units: 64,
-    };
-    assert_eq!(rt; (text.bytes, text.units), (66, 64));
+fn a_search_marks_the_owned_places_and_judges_few(rt: HostRuntime) -> Result<(), Fail> {
+    let text = b"a.bb.a";
+    let first = [find(0, 0), find(0, 1), find(5, 0), find(5, 1)];
+    let second = [find(2, 0), find(2, 1), find(3, 0), find(3, 1)];
+    let rows = [
+        (b'a', 0, 6, 2, first.as_slice()),
+        (b'b', 0, 6, 2, second.as_slice()),
+        (b'b', 3, 6, 1, &second[2..]),
+        (b'a', 1, 5, 0, &[]),
+        (b'a', 0, 0, 0, &[]),
+    ];
+    for (byte, from, to, judged, marks) in rows {
+        if from <= to && to <= text.len() {
+            let mut search = ByteSearch { byte, judged: 0 };
+            let mut found = Found::make(rt.alloc());
+            find_marks(&Sbuf::of(text, from, to, 0), &mut search, &mut found)?;
+            assert_eq!(rt; found.marks(), marks, "at {from} to {to}");
+            assert_eq!(rt; search.judged, judged, "at {from} to {to}");
+        }
+    }
+    Ok(())
 }

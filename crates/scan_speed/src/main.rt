@@ -2,19 +2,13 @@
 //! and prints how many marks one run finds. The difference in time between few runs and many is the
 //! speed of the search itself, without the start of a program and the reading of a file.
 //!
-//! The scanners are `url` (URLs and domains).
+//! The scanner is `url` (URLs and domains).
 #![tactic(auto)]
 
 use anyhow::{Context, Result, bail};
-use byte_kit::NoMemory;
 use sbuf_nest::{Found, Sbuf};
 use scan_url::find_urls;
 use std::{env, fs};
-
-#[derive(Clone, Copy)]
-enum Scanner {
-    Url,
-}
 
 fn main(rt: HostRuntime) -> Result<()> {
     let mut words = Vec::new(rt.alloc());
@@ -24,32 +18,17 @@ fn main(rt: HostRuntime) -> Result<()> {
     let [scanner, file, times] = words.as_slice() else {
         bail!("usage: scan_speed SCANNER FILE TIMES");
     };
-    let Some(scanner) = scanner_of(scanner.as_str()) else {
+    if scanner.as_str() != "url" {
         bail!("no such scanner: {scanner}");
-    };
+    }
     let times = times.parse::<u64>().context("reading the number of times")?;
     let bytes = fs::read(&rt, file.as_str()).context("reading the file")?;
     let sb = Sbuf::child(bytes.as_slice());
     let mut found = Found::make(rt.alloc());
     for _ in 0..times {
         found.clear();
-        search(scanner, &sb, &mut found)?;
+        find_urls(&sb, true, true, &mut found)?;
     }
     println!(rt; "{}", found.marks().len())?;
     Ok(())
-}
-
-// The scanner of a name.
-fn scanner_of(name: &str) -> Option<Scanner> {
-    match name {
-        "url" => Some(Scanner::Url),
-        _ => None,
-    }
-}
-
-// Appends the marks that the scanner finds.
-fn search(scanner: Scanner, sb: &Sbuf, found: &mut Found) -> Result<(), NoMemory> {
-    match scanner {
-        Scanner::Url => find_urls(sb, true, true, found),
-    }
 }

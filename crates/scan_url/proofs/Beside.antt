@@ -1,13 +1,16 @@
 -- Every URL and every domain stands beside a `://`.
-use Rattle.std.proofs.Common.{◌≡◌, ◌∙◌, ℕ, zero, suc, ◌+◌, ◌-◌, ◌<◌, ◌≤◌, min, Bool, true, false, List, [], ◌∷◌, length, take, drop, get_or, sym, ap, subst, refl, arith, None, ⊎_elim, codes}
+use Rattle.std.proofs.Common.{◌≡◌, ◌∙◌, ℕ, zero, suc, ◌+◌, ◌-◌, ◌<◌, ◌≤◌, Bool, true, false, List, [], ◌∷◌, length, take, drop, get_or, sym, ap, subst, refl, arith, None, ⊎_elim, codes}
 use Rattle.std.specs.Prelude.{slice_range}
 use Rattle.std.specs.Char.{to_ascii_lowercase}
 use Rattle.std.proofs.lemmas.Bool.{and_parts, eqb-true, leb-true, cases_lt}
 use Rattle.std.proofs.lemmas.List.{get_or-take, get_or-drop, get_or_past, length-take, length-drop}
-use Rattle.memchr.specs.Find.{OccursAt}
 use Rattle.sbuf_nest.specs.Around.{Around, look_at}
+use Rattle.sbuf_nest.specs.declared.look.TheConstants.{LOOK_BEFORE, LOOK_AFTER}
 use Rattle.scan_url.specs.Url.{starts_caseless, scheme_of, url_of}
 use Rattle.scan_url.specs.Domain.{ends_caseless, ends_with_scheme, domain_of}
+use Rattle.scan_url.specs.Marks.{url_marks}
+use Rattle.scan_url.specs.SchemeEnd.{EndsScheme, NoSchemeEnd}
+use Rattle.scan_url.specs.declared.find.TheConstants.{END_BYTES, NAME_LEAST, NAME_MOST}
 
 -- `://` stands at the place
 pub record HasMark (bytes : List ℕ) (at : ℕ) : Type 0 where
@@ -27,8 +30,30 @@ letter_at (letter ∷ word) (byte ∷ bytes) (suc j) starts below = letter_at wo
 no_letter : (byte : ℕ) (mark : ℕ) → to_ascii_lowercase byte ≡ mark → mark < 65 → byte ≡ mark
 no_letter byte mark is low = grind arith
 
+-- a letter's lower case is one
+no_lower : (byte letter : ℕ) → to_ascii_lowercase byte ≡ letter → 97 ≤ letter → byte < 65 → ⊥
+no_lower byte letter is high low = grind arith
+
+of_http : (j : ℕ) → j < NAME_LEAST → 97 ≤ get_or (codes "http://") j 0
+of_http zero below = omega arith
+of_http (suc zero) below = omega arith
+of_http (suc (suc zero)) below = omega arith
+of_http (suc (suc (suc j))) below = absurd (omega (arith, below))
+
+of_https : (j : ℕ) → j < NAME_LEAST → 97 ≤ get_or (codes "https://") j 0
+of_https zero below = omega arith
+of_https (suc zero) below = omega arith
+of_https (suc (suc zero)) below = omega arith
+of_https (suc (suc (suc j))) below = absurd (omega (arith, below))
+
+of_ftp : (j : ℕ) → j < NAME_LEAST → 97 ≤ get_or (codes "ftp://") j 0
+of_ftp zero below = omega arith
+of_ftp (suc zero) below = omega arith
+of_ftp (suc (suc zero)) below = omega arith
+of_ftp (suc (suc (suc j))) below = absurd (omega (arith, below))
+
 -- the end of a scheme
-marked_at : (word bytes : List ℕ) (at : ℕ) → at + 3 ≤ length word → get_or word at 0 ≡ 58 → get_or word (at + 1) 0 ≡ 47 → get_or word (at + 2) 0 ≡ 47 →
+marked_at : (word bytes : List ℕ) (at : ℕ) → at + END_BYTES ≤ length word → get_or word at 0 ≡ 58 → get_or word (at + 1) 0 ≡ 47 → get_or word (at + 2) 0 ≡ 47 →
     starts_caseless word bytes ≡ true → HasMark bytes at
 marked_at word bytes at long colon first second starts = record {
   colon = no_letter _ _ (letter_at word bytes at starts (omega arith) ∙ colon) (omega arith);
@@ -49,8 +74,8 @@ is_false : (b : Bool) → (b ≡ true → ⊥) → b ≡ false
 is_false true h = absurd (h refl)
 is_false false h = refl
 
--- no scheme begins where no `://` stands 3, 4 or 5 bytes further on
-no_scheme : (bytes : List ℕ) → ((at : ℕ) → 3 ≤ at → at ≤ 5 → HasMark bytes at → ⊥) → scheme_of bytes ≡ None
+-- no scheme begins where no `://` stands as far on as a scheme's name is long
+no_scheme : (bytes : List ℕ) → ((at : ℕ) → NAME_LEAST ≤ at → at ≤ NAME_MOST → HasMark bytes at → ⊥) → scheme_of bytes ≡ None
 unfolding scheme_of
 no_scheme bytes none =
     let http = is_false (starts_caseless (codes "http://") bytes) (λ h. none 4 (omega arith) (omega arith) (http_at bytes h)) in
@@ -58,7 +83,20 @@ no_scheme bytes none =
     let ftp = is_false (starts_caseless (codes "ftp://") bytes) (λ h. none 3 (omega arith) (omega arith) (ftp_at bytes h)) in
     rw (http, https, ftp) refl
 
-no_url : (look : Around) → ((at : ℕ) → 3 ≤ at → at ≤ 5 → HasMark look.after at → ⊥) → url_of look ≡ None
+-- a scheme's first letters are letters
+starts_with_letter : (word bytes : List ℕ) (j : ℕ) → j < length word → 97 ≤ get_or word j 0 → get_or bytes j 0 < 65 → starts_caseless word bytes ≡ false
+starts_with_letter word bytes j below letter low = is_false (starts_caseless word bytes) (λ starts. no_lower _ _ (letter_at word bytes j starts below) letter low)
+
+-- no scheme begins where a byte below the letters stands in what would be its name
+no_scheme_on : (bytes : List ℕ) (j : ℕ) → j < NAME_LEAST → get_or bytes j 0 < 65 → scheme_of bytes ≡ None
+unfolding scheme_of
+no_scheme_on bytes j below low =
+    let http = starts_with_letter (codes "http://") bytes j (omega arith) (of_http j below) low in
+    let https = starts_with_letter (codes "https://") bytes j (omega arith) (of_https j below) low in
+    let ftp = starts_with_letter (codes "ftp://") bytes j (omega arith) (of_ftp j below) low in
+    rw (http, https, ftp) refl
+
+no_url : (look : Around) → ((at : ℕ) → NAME_LEAST ≤ at → at ≤ NAME_MOST → HasMark look.after at → ⊥) → url_of look ≡ None
 unfolding url_of
 no_url look none = rw (no_scheme look.after none) refl
 
@@ -68,14 +106,14 @@ moved : (a b : List ℕ) (i j : ℕ) → get_or a i 0 ≡ get_or b j 0 → get_o
 moved a b i j p q r m = record { colon = sym p ∙ m.colon; first = sym q ∙ m.first; second = sym r ∙ m.second }
 
 -- the end of bytes that end with a word
-ended_by : (word bytes : List ℕ) (at : ℕ) → at + 3 ≡ length word → get_or word at 0 ≡ 58 → get_or word (at + 1) 0 ≡ 47 → get_or word (at + 2) 0 ≡ 47 →
-    ends_caseless word bytes ≡ true → (3 ≤ length bytes) × HasMark bytes (length bytes - 3)
+ended_by : (word bytes : List ℕ) (at : ℕ) → at + END_BYTES ≡ length word → get_or word at 0 ≡ 58 → get_or word (at + 1) 0 ≡ 47 → get_or word (at + 2) 0 ≡ 47 →
+    ends_caseless word bytes ≡ true → (END_BYTES ≤ length bytes) × HasMark bytes (length bytes - END_BYTES)
 ended_by word bytes at long colon first second ends =
     let parts = and_parts _ _ ends in
     let fits = leb-true (length word) (length bytes) parts.0 in
     let cut = length bytes - length word in
     let m = marked_at word (drop cut bytes) at (omega arith) colon first second parts.1 in
-    let end : cut + at ≡ length bytes - 3 = omega arith in (
+    let end : cut + at ≡ length bytes - END_BYTES = omega arith in (
       omega arith,
       subst (HasMark bytes) end (moved _ _ at (cut + at)
           (get_or-drop cut bytes at 0)
@@ -83,8 +121,8 @@ ended_by word bytes at long colon first second ends =
           (get_or-drop cut bytes (at + 2) 0 ∙ ap (λ k. get_or bytes k 0) (omega arith)) m),
     )
 
--- no scheme ends where no `://` stands 3 bytes ahead
-no_domain : (look : Around) → (3 ≤ length look.before → HasMark look.before (length look.before - 3) → ⊥) → domain_of look ≡ None
+-- no scheme ends where no `://` does
+no_domain : (look : Around) → (END_BYTES ≤ length look.before → HasMark look.before (length look.before - END_BYTES) → ⊥) → domain_of look ≡ None
 unfolding domain_of ends_with_scheme
 no_domain look none =
     let http = is_false (ends_caseless (codes "http://") look.before) (λ h. let e = ended_by (codes "http://") look.before 4 (omega arith) refl refl refl h in none e.0 e.1) in
@@ -111,19 +149,51 @@ mark_before bytes place cut at low m = moved _ _ at (cut + at)
     (before_at bytes place cut (at + 1) (omega arith) ∙ ap (λ k. get_or bytes k 0) (omega arith))
     (before_at bytes place cut (at + 2) (omega arith) ∙ ap (λ k. get_or bytes k 0) (omega arith)) m
 
--- no URL and no domain stands at a place without a `://` within 3 bytes ahead of it and 5 behind
-pub none_at : (bytes : List ℕ) (place : ℕ) → place < length bytes → ((at : ℕ) → place ≤ at + 3 → at ≤ place + 5 → HasMark bytes at → ⊥) →
-    (url_of (look_at bytes place) ≡ None) × (domain_of (look_at bytes place) ≡ None)
-unfolding look_at
-none_at bytes place low none =
-    let cut = place - 128 in
-    let before = drop cut (take place bytes) in
-    let count : length before ≡ place - cut = omega (arith, length-drop cut (take place bytes), length-take place bytes) in (
-      no_url (look_at bytes place) (λ at least most m.
-          none (place + at) (omega arith) (omega arith) (mark_after bytes place 131072 at (omega arith) m)),
-      no_domain (look_at bytes place) (λ long m.
-          none (cut + (length before - 3)) (omega arith) (omega arith) (mark_before bytes place cut (length before - 3) (omega arith) m)),
-    )
+module _ (bytes : List ℕ) (place : ℕ) where
+  -- no URL stands at a place without a `://` as far behind it as a scheme's name is long
+  no_url_at : ((at : ℕ) → place + NAME_LEAST ≤ at → at ≤ place + NAME_MOST → HasMark bytes at → ⊥) → url_of (look_at bytes place) ≡ None
+  unfolding look_at
+  no_url_at none =
+      no_url (look_at bytes place) (λ at least most m. none (place + at) (omega arith) (omega arith) (mark_after bytes place LOOK_AFTER at (omega arith) m))
+
+  -- no domain stands at a place without a `://` right ahead of it
+  no_domain_at : place < length bytes → (END_BYTES ≤ place → HasMark bytes (place - END_BYTES) → ⊥) → domain_of (look_at bytes place) ≡ None
+  unfolding look_at
+  no_domain_at low none =
+      let cut = place - LOOK_BEFORE in
+      let before = drop cut (take place bytes) in
+      let count : length before ≡ place - cut = omega (arith, length-drop cut (take place bytes), length-take place bytes) in
+      let ahead : cut + (length before - END_BYTES) ≡ place - END_BYTES = omega (arith, count) in
+      no_domain (look_at bytes place)
+      (λ long m. none (omega arith) (subst (HasMark bytes) ahead (mark_before bytes place cut (length before - END_BYTES) (omega arith) m)))
+
+  -- the bytes from a place on
+  byte_from : (j : ℕ) → j < NAME_LEAST → get_or (look_at bytes place).after j 0 ≡ get_or bytes (place + j) 0
+  unfolding look_at
+  byte_from j below = after_at bytes place LOOK_AFTER j (omega arith)
+
+  no_url_over : (j : ℕ) → j < NAME_LEAST → get_or bytes (place + j) 0 < 65 → url_of (look_at bytes place) ≡ None
+  unfolding url_of
+  no_url_over j below low = rw (no_scheme_on (look_at bytes place).after j below (omega (arith, byte_from j below))) refl
+
+  -- no URL begins at a place that a `://` covers, nor nearer ahead of it than the shortest name is long
+  no_url_near : (at : ℕ) → at < place + NAME_LEAST → place < at + END_BYTES → HasMark bytes at → url_of (look_at bytes place) ≡ None
+  no_url_near at ahead behind m =
+      ⊎_elim (λ lt. ⊎_elim
+      (λ second. no_url_over 0 (omega arith) (omega (arith, m.first, ap (λ k. get_or bytes k 0) (one_behind second lt))))
+      (λ third. no_url_over 0 (omega arith) (omega (arith, m.second, ap (λ k. get_or bytes k 0) (two_behind third))))
+      (cases_lt place (at + 2)))
+      (λ ge. no_url_over (at - place) (omega arith) (omega (arith, m.colon, ap (λ k. get_or bytes k 0) (there ge))))
+      (cases_lt at place)
+    where
+      one_behind : place < at + 2 → at < place → place + 0 ≡ at + 1
+      one_behind h l = omega arith
+
+      two_behind : at + 2 ≤ place → place + 0 ≡ at + 2
+      two_behind h = omega arith
+
+      there : place ≤ at → place + (at - place) ≡ at
+      there h = omega arith
 
 reads : (bytes : List ℕ) (at : ℕ) → HasMark bytes at → (j : ℕ) → j < 3 → get_or bytes (at + j) 0 ≡ get_or (codes "://") j 0
 reads bytes at m zero low = let e : at + 0 ≡ at = omega arith in rw e m.colon
@@ -131,36 +201,58 @@ reads bytes at m (suc zero) low = m.first
 reads bytes at m (suc (suc zero)) low = m.second
 reads bytes at m (suc (suc (suc j))) low = absurd (omega arith)
 
--- a search of a part finds each `://` of it
-pub occurs : (bytes : List ℕ) (from end at : ℕ) → from ≤ at → at + 3 ≤ end → end ≤ length bytes → HasMark bytes at →
-    OccursAt (slice_range bytes from end) (codes "://") (at - from)
-occurs bytes from end at low high within m =
-    let part = slice_range bytes from end in
-    let same = λ (j : ℕ) (l : j < 3). sym (after_at bytes from (end - from) (at - from + j) (omega arith)) in
-    record {
-      fits = omega (arith, length-take (end - from) (drop from bytes), length-drop from bytes);
-      reads = reads part (at - from) (moved bytes part at (at - from)
-          (ap (λ k. get_or bytes k 0) (omega arith) ∙ same 0 (omega arith) ∙ ap (λ k. get_or part k 0) (omega arith))
-          (ap (λ k. get_or bytes k 0) (omega arith) ∙ same 1 (omega arith))
-          (ap (λ k. get_or bytes k 0) (omega arith) ∙ same 2 (omega arith)) m);
-    }
-
-within : (bytes : List ℕ) (at : ℕ) → HasMark bytes at → at + 3 ≤ length bytes
+within : (bytes : List ℕ) (at : ℕ) → HasMark bytes at → at + END_BYTES ≤ length bytes
 within bytes at m =
     ⊎_elim (λ short. omega arith) (λ long. absurd (omega (arith, m.second, get_or_past bytes (at + 2) 0 long))) (cases_lt (at + 2) (length bytes))
 
--- Where a search from 3 bytes ahead of `next` to 7 bytes behind the owned range finds no `://` in the
--- first `stop` places, a place has no URL and no domain if all `://` up to 5 bytes behind it would be among these.
-pub none_ahead : (bytes part : List ℕ) (next own_to from end stop : ℕ) → own_to ≤ length bytes → from ≡ next - 3 →
-    end ≡ min (own_to + 7) (length bytes) → part ≡ slice_range bytes from end →
-    ((k : ℕ) → 0 ≤ k → k < stop → OccursAt part (codes "://") k → ⊥) →
-    (place : ℕ) → next ≤ place → place < own_to → ((at : ℕ) → from ≤ at → at ≤ place + 5 → at + 3 ≤ end → at < from + stop) →
-    (url_of (look_at bytes place) ≡ None) × (domain_of (look_at bytes place) ≡ None)
-none_ahead bytes part next own_to from end stop owned from_is end_is part_is nowhere place low high among =
-    none_at bytes place (omega arith) (λ at least most m.
-    let fits = within bytes at m in
-    let sooner = among at (omega arith) most (omega arith) in
-    nowhere (at - from) (omega arith) (omega arith) (rw part_is (occurs bytes from end at (omega arith) (omega arith) (omega arith) m)))
+-- the three bytes, and the word
+occurs : (bytes : List ℕ) (at : ℕ) → HasMark bytes at → EndsScheme bytes at
+occurs bytes at m = record { fits = within bytes at m; reads = reads bytes at m }
 
-pub length_part : (bytes : List ℕ) (from end : ℕ) → end ≤ length bytes → length (slice_range bytes from end) ≡ end - from
-length_part bytes from end fits = omega (arith, length-take (end - from) (drop from bytes), length-drop from bytes)
+has_mark : (bytes : List ℕ) (at : ℕ) → EndsScheme bytes at → HasMark bytes at
+has_mark bytes at o =
+    let e : at ≡ at + 0 = omega arith in
+    record { colon = ap (λ k. get_or bytes k 0) e ∙ o.reads 0 (omega arith); first = o.reads 1 (omega arith); second = o.reads 2 (omega arith) }
+
+module _ (bytes : List ℕ) (from end : ℕ) (fits : end ≤ length bytes) where
+  pub count_part : length (slice_range bytes from end) ≡ end - from
+  count_part = omega (arith, length-take (end - from) (drop from bytes), length-drop from bytes)
+
+  -- a search of a part finds each `://` of it
+  pub in_part : (at : ℕ) → from ≤ at → at + END_BYTES ≤ end → EndsScheme bytes at → EndsScheme (slice_range bytes from end) (at - from)
+  in_part at low high o =
+      let m = has_mark bytes at o in
+      let part = slice_range bytes from end in
+      let same = λ (j : ℕ) (l : j < 3). sym (after_at bytes from (end - from) (at - from + j) (omega arith)) in
+      occurs part (at - from) (moved bytes part at (at - from)
+      (ap (λ k. get_or bytes k 0) (omega arith) ∙ same 0 (omega arith) ∙ ap (λ k. get_or part k 0) (omega arith))
+      (ap (λ k. get_or bytes k 0) (omega arith) ∙ same 1 (omega arith))
+      (ap (λ k. get_or bytes k 0) (omega arith) ∙ same 2 (omega arith)) m)
+
+  -- and no other
+  pub in_whole : (k : ℕ) → EndsScheme (slice_range bytes from end) k → EndsScheme bytes (from + k)
+  in_whole k o =
+      occurs bytes (from + k) (mark_after bytes from (end - from) k (omega (arith, o.fits, count_part)) (has_mark (slice_range bytes from end) k o))
+
+module _ (bytes : List ℕ) (next at : ℕ) (first : NoSchemeEnd bytes next at) (place : ℕ) (low : next ≤ place) (inside : place < length bytes) where
+  -- nothing stands further ahead of the first `://` than the longest name is long
+  pub none_ahead : place + NAME_MOST < at → (url_of (look_at bytes place) ≡ None) × (domain_of (look_at bytes place) ≡ None)
+  none_ahead far = (
+    no_url_at bytes place (λ k least most m. first k (omega arith) (omega arith) (occurs bytes k m)),
+    no_domain_at bytes place inside (λ enough m. first (place - END_BYTES) (omega arith) (omega arith) (occurs bytes (place - END_BYTES) m)),
+  )
+
+  -- nor between the shortest name of its scheme and the host
+  pub none_over : EndsScheme bytes at → at < place + NAME_LEAST → place < at + END_BYTES → (url_of (look_at bytes place) ≡ None) × (domain_of (look_at bytes place) ≡ None)
+  none_over stands ahead behind = (
+    no_url_near bytes place at ahead behind (has_mark bytes at stands),
+    no_domain_at bytes place inside (λ enough m. first (place - END_BYTES) (omega arith) (omega arith) (occurs bytes (place - END_BYTES) m)),
+  )
+
+-- a place with neither has no mark
+pub unmarked : (want_url want_domain : Bool) (look : Around) (place : ℕ) → (url_of look ≡ None) × (domain_of look ≡ None) →
+    url_marks want_url want_domain look place ≡ []
+unmarked true true look place none = rw (none.0, none.1) refl
+unmarked true false look place none = rw none.0 refl
+unmarked false true look place none = rw none.1 refl
+unmarked false false look place none = refl

@@ -3,4 +3,3 @@ pub mod Hosts
 pub mod Prefixes
 pub mod Rows
 pub mod Runs
-pub mod Steps

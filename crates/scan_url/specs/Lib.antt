@@ -1,3 +1,4 @@
 pub mod Url
 pub mod Domain
 pub mod Marks
+pub mod SchemeEnd

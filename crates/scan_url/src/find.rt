@@ -1,24 +1,39 @@
 // The search of a buffer for URLs and domains.
-ghost use Rattle.std.specs.Prelude.{◌≡◌, ◌<◌, ◌≤◌, ◌-◌, ◌++◌, Bool, None, length, codes, IfNone, IfSome, OnOk, OnErr, if◌then◌else◌};
-ghost use Rattle.sbuf_nest.specs.Around.{look_at};
-ghost use Rattle.sbuf_nest.specs.Marks.{marked, marks_of, owned_marks, AppendsFirst};
-ghost use Rattle.scan_url.specs.Marks.{url_marks, NoneFrom};
+//
+// It goes by a search for `://`, which each URL has behind the name of its scheme, and each domain
+// right ahead of it. There is a vector search for it; it is rare elsewhere; and it has no letters, so
+// their case makes no difference. Four places are judged for each one: a name has 3 to 5 letters.
+//
+// It costs the vector search, which sees each owned byte about once, and the judging, which reads at
+// most `URL_MOST` bytes of a URL and as many of an authority. The worst image is `ftp://` over and over
+// again: each six bytes of it begin a URL of `URL_MOST` bytes.
+ghost use Rattle.std.specs.Prelude.{◌≡◌, ◌+◌, ◌<◌, ◌≤◌, ◌++◌, ℕ, codes, IfNone, IfSome, OnOk, OnErr};
+ghost use Rattle.sbuf_nest.specs.Marks.{owned_marks, AppendsFirst};
+ghost use Rattle.scan_url.specs.Marks.{url_marks};
+ghost use Rattle.scan_url.specs.SchemeEnd.{EndsScheme, NoSchemeEnd};
 
 use crate::{domain_len, url_len};
 use byte_kit::NoMemory;
 use forensic_path::Kind;
 use memchr::memmem::Finder;
-use sbuf_nest::{Found, Mark, Sbuf};
+use sbuf_nest::{Found, Look, Places, Sbuf, Search, find_marks};
 
-// What every scheme ends with.
+// What every scheme ends with, behind its name.
 const SCHEME_END: &[u8] = b"://";
+
+// How many bytes that has.
+const END_BYTES: usize = SCHEME_END.len();
+
+// How many bytes the shortest name of a scheme has.
+const NAME_LEAST: usize = b"ftp".len();
+
+// How many bytes the longest name of a scheme has.
+const NAME_MOST: usize = b"https".len();
 
 /// Appends the marks of the URLs and of the domains, each where it is wanted, that stand at the
 /// places that the buffer owns, in order of place, and at one place the URL first. The extent is
 /// `url_len` or `domain_len` there. Its one refusal is want of memory, which leaves the first few of
 /// these marks appended.
-///
-/// It goes by one search for `://`, beside which every URL and every domain stands.
 pub fn find_urls(
     sb: &Sbuf,
     want_url: bool,
@@ -29,93 +44,74 @@ pub fn find_urls(
     ensures err { OnErr result
         (AppendsFirst found.old found.new (owned_marks (url_marks want_url want_domain) sb.now)) }
 {
-    let finder = Finder::new(SCHEME_END);
-    let mut next = sb.own_from();
-    while next < sb.own_to() {
-        let Some((from, to)) = next_places(sb, &finder, next) else {
-            return Ok(());
-        };
-        add_places(sb, from, to, want_url, want_domain, found)?;
-        next = to;
-    }
-    Ok(())
+    let mut search = UrlSearch {
+        finder: Finder::new(SCHEME_END),
+        want_url,
+        want_domain,
+    };
+    find_marks(sb, &mut search, found)
 }
 
-// The owned places from `next` on that lie around the first `://` that can be of use to one of
-// them: a scheme begins at most 5 bytes ahead of it, and a domain 3 bytes behind its start. None of
-// the places ahead of these has a URL or a domain.
-fn next_places(sb: &Sbuf, finder: &Finder, next: usize) -> Option<(usize, usize)>
+// The search for `://`, and which of the two kinds are wanted.
+#[derive(Drop)]
+struct UrlSearch<'a> {
+    finder: Finder<'a>,
+    want_url: bool,
+    want_domain: bool,
+    ghost needle: { finder ≡ codes "://" },
+}
+
+impl<'a> Search for UrlSearch<'a> {
+    ghost judge = { λ s. url_marks s.want_url s.want_domain };
+
+    // The places ahead of the next `://` where a scheme of its may begin, or, behind these, the one
+    // where its host does: no URL begins between them, since a scheme's name is letters.
+    fn next_places(&mut self, sb: &Sbuf, next: usize) -> Option<Places> {
+        let Some(at) = next_scheme_end(sb, &self.finder, next) else {
+            return None;
+        };
+        if next + NAME_LEAST <= at {
+            return Some(Places {
+                from: next.max(at.saturating_sub(NAME_MOST)),
+                to: (at - NAME_LEAST + 1).min(sb.own_to()),
+            });
+        }
+        let host = at + END_BYTES;
+        if host >= sb.own_to() {
+            return None;
+        }
+        Some(Places {
+            from: host,
+            to: host + 1,
+        })
+    }
+
+    fn add_marks(&mut self, look: &Look, place: usize, found: &mut Found) -> Result<(), NoMemory> {
+        let url = if self.want_url { url_len(look) } else { None };
+        let domain = if self.want_domain {
+            domain_len(look)
+        } else {
+            None
+        };
+        found.add_extent(place, Kind::Url, 0, url)?;
+        found.add_extent(place, Kind::Domain, 0, domain)
+    }
+}
+
+// The first `://` that can be of use to an owned place from `next` on: one that ends at `next` or
+// behind it, and begins no further behind the last owned place than the longest name is long.
+fn next_scheme_end(sb: &Sbuf, finder: &Finder, next: usize) -> Option<usize>
     requires needle { finder.now ≡ codes "://" }
     requires owned { next < sb.now.own_to }
-    ensures none { IfNone result (NoneFrom sb.now.bytes.now next sb.now.own_to) }
-    ensures ahead { IfSome result (λ places. NoneFrom sb.now.bytes.now next places.0) }
-    ensures ordered { IfSome result (λ places. (next ≤ places.0) × (places.0 < places.1)) }
-    ensures within { IfSome result (λ places. places.1 ≤ sb.now.own_to) }
+    ensures none { IfNone result (NoSchemeEnd sb.now.bytes.now next (sb.now.own_to + NAME_MOST)) }
+    ensures stands { IfSome result (EndsScheme sb.now.bytes.now) }
+    ensures first { IfSome result (NoSchemeEnd sb.now.bytes.now next) }
+    ensures near { IfSome result (λ at. (next ≤ at + END_BYTES) × (at < sb.now.own_to + NAME_MOST)) }
 {
-    let from = next.saturating_sub(3);
-    let end = (sb.own_to() + 7).min(sb.len());
+    let from = next.saturating_sub(END_BYTES);
+    let end = (sb.own_to() - 1 + NAME_MOST + END_BYTES).min(sb.len());
     let Some(offset) = finder.find(sb.part(from, end)) else {
         return None;
     };
-    let at = from + offset;
-    Some((next.max(at.saturating_sub(5)), (at + 4).min(sb.own_to())))
-}
-
-// Appends the marks of the places from `from` up to `to`.
-fn add_places(
-    sb: &Sbuf,
-    from: usize,
-    to: usize,
-    want_url: bool,
-    want_domain: bool,
-    found: &mut Found,
-) -> Result<(), NoMemory>
-    requires ordered { from ≤ to }
-    requires within { to ≤ length sb.now.bytes.now }
-    ensures ok { OnOk result
-        (found.new ≡ found.old ++ marks_of (url_marks want_url want_domain) sb.now.bytes.now from (to - from)) }
-    ensures err { OnErr result
-        (AppendsFirst found.old found.new (marks_of (url_marks want_url want_domain) sb.now.bytes.now from (to - from))) }
-{
-    for place in from..to {
-        add_place(sb, place, want_url, want_domain, found)?;
-    }
-    Ok(())
-}
-
-// Appends the marks of a place.
-fn add_place(
-    sb: &Sbuf,
-    place: usize,
-    want_url: bool,
-    want_domain: bool,
-    found: &mut Found,
-) -> Result<(), NoMemory>
-    requires { place < length sb.now.bytes.now }
-    ensures ok { OnOk result
-        (found.new ≡ found.old ++ url_marks want_url want_domain (look_at sb.now.bytes.now place) place) }
-    ensures err { OnErr result
-        (AppendsFirst found.old found.new (url_marks want_url want_domain (look_at sb.now.bytes.now place) place)) }
-{
-    let look = sb.look(place);
-    let url = if want_url { url_len(&look) } else { None };
-    let domain = if want_domain { domain_len(&look) } else { None };
-    add_mark(place, Kind::Url, url, found)?;
-    add_mark(place, Kind::Domain, domain, found)
-}
-
-// Appends the mark of what has this extent at the place, if anything has.
-fn add_mark(at: usize, kind: Kind, extent: Option<u32>, found: &mut Found) -> Result<(), NoMemory>
-    ensures ok { OnOk result (found.new ≡ found.old ++ marked kind at extent) }
-    ensures err { OnErr result (found.new ≡ found.old) }
-{
-    match extent {
-        None => Ok(()),
-        Some(extent) => found.add(Mark {
-            at,
-            kind,
-            which: 0,
-            extent,
-        }),
-    }
+    Some(from + offset)
 }

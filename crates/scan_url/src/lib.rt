@@ -2,7 +2,7 @@
 //!
 //! The promise: a length call answers the shape of `specs/Url.antt` or `specs/Domain.antt`, and None
 //! exactly where it doesn't stand. `find_urls` appends exactly the marks of `specs/Marks.antt` of the
-//! places that the buffer owns, at the speed of one search for `://`.
+//! places that the buffer owns.
 #![tactic(auto)]
 
 mod domain;

@@ -1,10 +1,8 @@
 ghost use Rattle.std.specs.Prelude.{◌≤◌, length};
 
 use crate::{domain_len, find_urls, url_len};
-use byte_kit::NoMemory;
 use forensic_path::Kind;
 use sbuf_nest::{Found, Look, Mark, Sbuf};
-use std::alloc::Global;
 use std::test::Fail;
 
 #[test]
@@ -111,28 +109,12 @@ fn userinfo_counts_in_the_first_2048_bytes_of_an_authority(rt: HostRuntime) -> R
     Ok(())
 }
 
-fn url(at: usize, extent: u32) -> Mark {
-    mark(at, Kind::Url, extent)
-}
-
-fn domain(at: usize, extent: u32) -> Mark {
-    mark(at, Kind::Domain, extent)
-}
-
-fn mark(at: usize, kind: Kind, extent: u32) -> Mark {
-    Mark {
-        at,
-        kind,
-        which: 0,
-        extent,
-    }
-}
-
-// What is found in a text that is owned as a whole.
-fn found_in(alloc: Global, text: &str) -> Result<Found, NoMemory> {
-    let mut found = Found::make(alloc);
-    find_urls(&Sbuf::child(text.as_bytes()), true, true, &mut found)?;
-    Ok(found)
+// The marks are those of the kinds and extents at the places, in this order, and no others.
+fn are(marks: &[Mark], want: &[(Kind, usize, u32)]) -> bool {
+    marks.len() == want.len()
+        && marks.iter().zip(want).all(|(mark, (kind, at, extent))| {
+            mark.kind == *kind && mark.at == *at && mark.which == 0 && mark.extent == *extent
+        })
 }
 
 #[test]
@@ -140,99 +122,93 @@ fn a_search_finds_each_url_and_each_domain(rt: HostRuntime) -> Result<(), Fail> 
     let rows = [
         (
             "see http://example.com/a b",
-            [Some(url(4, 20)), Some(domain(11, 11)), None, None],
+            [(Kind::Url, 4, 20), (Kind::Domain, 11, 11)].as_slice(),
         ),
         (
             "http://a.b/?u=http://c.d/",
-            [
-                Some(url(0, 25)),
-                Some(domain(7, 3)),
-                Some(url(14, 11)),
-                Some(domain(21, 3)),
+            &[
+                (Kind::Url, 0, 25),
+                (Kind::Domain, 7, 3),
+                (Kind::Url, 14, 11),
+                (Kind::Domain, 21, 3),
             ],
         ),
         (
             "http://http://a.b/",
-            [
-                Some(url(0, 18)),
-                Some(url(7, 11)),
-                Some(domain(14, 3)),
-                None,
+            &[
+                (Kind::Url, 0, 18),
+                (Kind::Url, 7, 11),
+                (Kind::Domain, 14, 3),
             ],
         ),
         (
             "xhttps://a.b ftp://c",
-            [Some(url(1, 11)), Some(domain(9, 3)), Some(url(13, 7)), None],
+            &[(Kind::Url, 1, 11), (Kind::Domain, 9, 3), (Kind::Url, 13, 7)],
         ),
-        ("http://://a.b://c.d", [Some(url(0, 19)), None, None, None]),
-        ("http://jo.doe@h.org/", [Some(url(0, 20)), None, None, None]),
+        ("http://://a.b://c.d", &[(Kind::Url, 0, 19)]),
+        ("http://jo.doe@h.org/", &[(Kind::Url, 0, 20)]),
         (
             "http://a.b...:80/",
-            [Some(url(0, 17)), Some(domain(7, 3)), None, None],
+            &[(Kind::Url, 0, 17), (Kind::Domain, 7, 3)],
         ),
-        ("http://.a.b/", [Some(url(0, 12)), None, None, None]),
-        ("http://localhost/", [Some(url(0, 17)), None, None, None]),
-        ("x ftp://", [None, None, None, None]),
-        ("s://a.b tp://a.b ://a.b", [None, None, None, None]),
-        ("", [None, None, None, None]),
+        ("http://.a.b/", &[(Kind::Url, 0, 12)]),
+        ("http://localhost/", &[(Kind::Url, 0, 17)]),
+        ("x ftp://", &[]),
+        ("s://a.b tp://a.b ://a.b", &[]),
+        ("", &[]),
     ];
     for (text, want) in rows {
-        let found = found_in(rt.alloc(), text)?;
-        let marks = found.marks();
-        assert_eq!(rt; marks.get(4), None, "at {text}");
-        for i in 0..4 {
-            assert_eq!(rt; marks.get(i).copied(), want[i], "at {i} of {text}");
-        }
+        let mut found = Found::make(rt.alloc());
+        find_urls(&Sbuf::child(text.as_bytes()), true, true, &mut found)?;
+        assert!(rt; are(found.marks(), want), "at {text}");
     }
     Ok(())
 }
 
 #[test]
-fn a_search_reports_the_owned_places_alone(rt: HostRuntime) -> Result<(), Fail> {
+fn a_search_appends_the_wanted_marks_of_the_owned_places(rt: HostRuntime) -> Result<(), Fail> {
     let text = b"http://a.b/ https://c.d";
     let rows = [
-        ((7, 12), true, true, [Some(domain(7, 3)), None]),
-        ((0, 7), true, true, [Some(url(0, 11)), None]),
-        ((0, 1), true, true, [Some(url(0, 11)), None]),
-        ((1, 7), true, true, [None, None]),
-        ((8, 12), true, true, [None, None]),
-        ((8, 13), true, true, [Some(url(12, 11)), None]),
-        ((13, 21), true, true, [Some(domain(20, 3)), None]),
-        ((13, 20), true, true, [None, None]),
-        ((7, 7), true, true, [None, None]),
-        ((0, 23), true, false, [Some(url(0, 11)), Some(url(12, 11))]),
+        (7, 12, true, true, [(Kind::Domain, 7, 3)].as_slice()),
+        (0, 7, true, true, &[(Kind::Url, 0, 11)]),
+        (0, 1, true, true, &[(Kind::Url, 0, 11)]),
+        (1, 7, true, true, &[]),
+        (8, 12, true, true, &[]),
+        (8, 13, true, true, &[(Kind::Url, 12, 11)]),
+        (13, 21, true, true, &[(Kind::Domain, 20, 3)]),
+        (13, 20, true, true, &[]),
+        (7, 7, true, true, &[]),
         (
-            (0, 23),
+            0,
+            23,
+            true,
+            false,
+            &[(Kind::Url, 0, 11), (Kind::Url, 12, 11)],
+        ),
+        (
+            0,
+            23,
             false,
             true,
-            [Some(domain(7, 3)), Some(domain(20, 3))],
+            &[(Kind::Domain, 7, 3), (Kind::Domain, 20, 3)],
         ),
-        ((0, 23), false, false, [None, None]),
+        (0, 23, false, false, &[]),
     ];
-    for ((from, to), want_url, want_domain, want) in rows {
+    for (from, to, want_url, want_domain, want) in rows {
         if from <= to && to <= text.len() {
             let sb = Sbuf::of(text, from, to, 1000);
             let mut found = Found::make(rt.alloc());
             find_urls(&sb, want_url, want_domain, &mut found)?;
-            for i in 0..2 {
-                assert_eq!(rt;
-                    found.marks().get(i).copied(),
-                    want[i],
-                    "at {i} of {from} to {to}"
-                );
-            }
-            assert_eq!(rt; found.marks().get(2), None, "at {from} to {to}");
+            assert!(rt; are(found.marks(), want), "at {from} to {to}");
         }
     }
-    Ok(())
-}
-
-#[test]
-fn marks_are_appended_to_what_stands(rt: HostRuntime) -> Result<(), Fail> {
-    let mut found = Found::make(rt.alloc());
     let sb = Sbuf::child(b"ftp://a.b");
-    find_urls(&sb, true, false, &mut found)?;
+    let mut found = Found::make(rt.alloc());
     find_urls(&sb, false, true, &mut found)?;
-    assert_eq!(rt; found.marks(), [url(0, 9), domain(6, 3)].as_slice());
+    find_urls(&sb, true, false, &mut found)?;
+    assert!(rt;
+        are(found.marks(), &[(Kind::Domain, 6, 3), (Kind::Url, 0, 9)]),
+        "appended"
+    );
     Ok(())
 }
