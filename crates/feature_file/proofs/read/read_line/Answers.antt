@@ -1,6 +1,5 @@
 -- Each part of a line is refused where it is that of no line, since a line has one first TAB and one second.
-use Rattle.std.proofs.Common.{sym, ◌∙◌}
-use Rattle.feature_file.proofs.Tabs.{HasParts, no_first, no_second, parts_of, parts_same, whole_of}
+use Rattle.feature_file.proofs.Tabs.{no_first, no_second, parts_of, parts_same, whole_of}
 use Rattle.feature_file.proofs.read.read_line.Goals as goal
 
 pub returns-in_default-clause-none : goal.returns-in_default-clause-none
