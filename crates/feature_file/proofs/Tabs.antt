@@ -20,7 +20,7 @@ use Rattle.forensic_path.proofs.OnePath.{path_same}
 use Rattle.feature_escape.specs.Escape.{AreBytes, escape_of, escaped, hex_capital, stands, unescape_lenient_of}
 use Rattle.feature_escape.proofs.LenientLaw.{lenient_undoes}
 use Rattle.feature_file.specs.FeatureFile.{line_of}
-use Rattle.feature_file.specs.Lines.{HasNoTab, IsCut, IsLine, IsNoLine}
+use Rattle.feature_file.specs.Lines.{HasNoTab, IsCutAtTab, IsLine, IsNoLine}
 
 abbrev IsNoTab : ℕ → Type 0
 IsNoTab byte = byte ≢ 9
@@ -128,14 +128,14 @@ no_first text none path feature context line =
     (subst HasNoTab (sym line.is ∙ line_parts path feature context) none)
 
 -- a line's first TAB stands behind its path
-front_of : {text place rest : List ℕ} (path : Path) (feature context : List ℕ) → IsCut text place rest → IsLine path feature context text
+front_of : {text place rest : List ℕ} (path : Path) (feature context : List ℕ) → IsCutAtTab text place rest → IsLine path feature context text
     → (path_text_of path ≡ place) × (escape_of feature ++ 9 ∷ escape_of context ≡ rest)
 front_of {text} {place} {rest} path feature context cut line =
     cut_same (path_text_of path) place (escape_of feature ++ 9 ∷ escape_of context) rest
     (path_has_none path line.lawful) cut.first (sym (line_parts path feature context) ∙ (line.is ∙ cut.whole))
 
 -- nor is one without a second
-pub no_second : {text place rest : List ℕ} → IsCut text place rest → HasNoTab rest → IsNoLine text
+pub no_second : {text place rest : List ℕ} → IsCutAtTab text place rest → HasNoTab rest → IsNoLine text
 no_second {text} {place} {rest} cut none path feature context line =
     has_one (escape_of feature) (escape_of context) (subst HasNoTab (sym (front_of path feature context cut line).1) none)
 
@@ -145,16 +145,16 @@ pub record HasParts (path : Path) (feature context place text around : List ℕ)
   pub text_is : escape_of feature ≡ text
   pub around_is : escape_of context ≡ around
 
-pub parts_of : {line place rest text around : List ℕ} (path : Path) (feature context : List ℕ) → IsCut line place rest
-    → IsCut rest text around → IsLine path feature context line → HasParts path feature context place text around
+pub parts_of : {line place rest text around : List ℕ} (path : Path) (feature context : List ℕ) → IsCutAtTab line place rest
+    → IsCutAtTab rest text around → IsLine path feature context line → HasParts path feature context place text around
 parts_of {line} {place} {rest} {text} {around} path feature context first second is =
     let front = front_of path feature context first is in
     let back = cut_same (escape_of feature) text (escape_of context) around (escape_has_none feature) second.first (front.1 ∙ second.whole) in
     record { place_is = front.0; text_is = back.0; around_is = back.1 }
 
 -- such parts make up a line
-pub whole_of : {line place rest text around : List ℕ} (path : Path) (feature context : List ℕ) → IsCut line place rest
-    → IsCut rest text around → HasParts path feature context place text around → line_of path feature context ≡ line
+pub whole_of : {line place rest text around : List ℕ} (path : Path) (feature context : List ℕ) → IsCutAtTab line place rest
+    → IsCutAtTab rest text around → HasParts path feature context place text around → line_of path feature context ≡ line
 whole_of {line} {place} {rest} {text} {around} path feature context first second parts =
     let behind : escape_of feature ++ 9 ∷ escape_of context ≡ rest = rw (parts.text_is, parts.around_is) (sym second.whole) in
     line_parts path feature context ∙ (rw (parts.place_is, behind) (sym first.whole))

@@ -34,6 +34,6 @@ abbrev pub HasNoTab : List ℕ → Type 0
 HasNoTab bytes = All (λ byte. byte ≢ TAB) bytes
 
 -- what stands ahead of a text's first TAB, and what stands behind it
-pub record IsCut (text front rest : List ℕ) : Type 0 where
+pub record IsCutAtTab (text front rest : List ℕ) : Type 0 where
   pub whole : text ≡ front ++ TAB ∷ rest
   pub first : HasNoTab front

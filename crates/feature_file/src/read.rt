@@ -1,7 +1,7 @@
 // The line of a feature file, read back. Two TABs keep its parts apart: no path and no escape has one.
 ghost use Rattle.std.specs.Prelude.{ℕ, ◌≤◌, List, length, IfSome, IfNone, IfOk};
 ghost use Rattle.forensic_path.specs.Grammar.{HasText};
-ghost use Rattle.feature_file.specs.Lines.{HasNoTab, IsCut, IsLine, IsNoLine, IsNoPath, IsReadAs};
+ghost use Rattle.feature_file.specs.Lines.{HasNoTab, IsCutAtTab, IsLine, IsNoLine, IsNoPath, IsReadAs};
 
 use byte_kit::{Bytes, NoMemory};
 use feature_escape::unescape_strict;
@@ -19,14 +19,14 @@ pub struct Line {
     pub context: Bytes,
 }
 
-/// Reads a line of a feature file, given without the LF at its end. `None` exactly where it is the line of
-/// no path of at most [`STEPS_MOST`] steps, feature and context, as a header, a line with a CR at its end
-/// or one that was edited. Its one refusal is want of memory.
+/// Reads a line of a feature file, given without the LF at its end. `None` exactly where the text is the
+/// line of no path of at most [`STEPS_MOST`] steps with a feature and a context: so of a header's line, and
+/// of a line with a CR at its end. Its one refusal is want of memory.
 pub fn read_line(alloc: Global, line: &[u8]) -> Result<Option<Line>, NoMemory>
     ensures some { IfOk result (λ read. IfSome read (λ l. IsLine l.path l.feature l.context line.now)) }
     ensures none { IfOk result (λ read. IfNone read (IsNoLine line.now)) }
 
-    // Whatever the line is the line of is what is read of it.
+    // The path, feature and context that have this line are those that are read.
     ensures back { (path : Path) (feature context : List ℕ) → IsLine path feature context line.now
         → IfOk result (IsReadAs path feature context) }
 {
@@ -67,7 +67,7 @@ fn read_path(alloc: Global, text: &[u8]) -> Result<Option<Path>, NoMemory>
 
 // The bytes ahead of the first TAB, and those behind it.
 fn cut_at_tab(text: &[u8]) -> Option<(&[u8], &[u8])>
-    ensures some { IfSome result (λ cut. IsCut text.now cut.0.now cut.1.now) }
+    ensures some { IfSome result (λ cut. IsCutAtTab text.now cut.0.now cut.1.now) }
     ensures none { IfNone result (HasNoTab text.now) }
 {
     let at = text.iter().position(|byte| *byte == TAB)?;
