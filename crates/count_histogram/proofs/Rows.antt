@@ -1,6 +1,7 @@
 -- Histograms by example.
-use Rattle.std.specs.Prelude.{◌≡◌, ℕ, List, [], ◌∷◌, ◌++◌, map, codes, refl}
+use Rattle.std.specs.Prelude.{◌≡◌, ℕ, List, [], ◌∷◌, ◌++◌, Some, is_some, map, filter, codes, refl}
 use Rattle.std.specs.Fmt.{digits}
+use Rattle.std.specs.List.{range_with_len}
 use Rattle.byte_kit.specs.Classes.{printable_class}
 use Rattle.forensic_path.specs.declared.feature.Class.{Class}
 use Rattle.forensic_path.specs.declared.feature.Class.TheVariants.{Plain, Stopped, Alert}
@@ -8,28 +9,44 @@ use Rattle.forensic_path.specs.declared.feature.Kind.{Kind}
 use Rattle.forensic_path.specs.declared.feature.Kind.TheVariants.{Url, Domain, Find}
 use Rattle.forensic_path.specs.declared.feature.Classed.{Classed}
 use Rattle.feature_escape.specs.Escape.{escape_of}
-use Rattle.feature_file.specs.Files.{report_files}
+use Rattle.feature_file.specs.Files.{report_files, is_histogram}
 use Rattle.feature_file.specs.FeatureFile.{header_of}
 use Rattle.scan_url.specs.Url.{scheme_of}
-use Rattle.count_histogram.specs.Histogram.{image_of, rows_of, row_line_of, histogram_text}
+use Rattle.count_histogram.specs.Rules.{rule_of, source_of, item_of}
+use Rattle.count_histogram.specs.Histogram.{rows_of, row_line_of, histogram_text}
+use Rattle.count_histogram.specs.declared.rule.Rule.TheVariants as rule
 
--- ---- images
+-- ---- rules
+
+-- the files 21 to 26 have a rule each, and no other file has one
+rules : map rule_of (range_with_len 21 6)
+    ≡ Some rule.Url ∷ Some rule.Service ∷ Some rule.Domain ∷ Some rule.Ip ∷ Some rule.Ether ∷ Some rule.Find ∷ []
+rules = refl
+
+histograms : filter (λ number. is_some (rule_of number)) (range_with_len 0 40) ≡ filter is_histogram (range_with_len 0 40)
+histograms = refl
+
+-- the feature files that are counted
+sources : map source_of (rule.Url ∷ rule.Service ∷ rule.Domain ∷ rule.Ip ∷ rule.Ether ∷ rule.Find ∷ []) ≡ 1 ∷ 1 ∷ 2 ∷ 3 ∷ 4 ∷ 7 ∷ []
+sources = refl
+
+-- ---- items
 
 -- the service ends at the first of `/`, `?` and `#`, and is in lower case
-services : map (image_of 22) (codes "http://a.b/?u=http://c.d/" ∷ codes "HTTPS://Example.COM:80?q" ∷ codes "ftp://A#b" ∷ codes "http://a.b" ∷ [])
+services : map (item_of rule.Service) (codes "http://a.b/?u=http://c.d/" ∷ codes "HTTPS://Example.COM:80?q" ∷ codes "ftp://A#b" ∷ codes "http://a.b" ∷ [])
     ≡ codes "http://a.b" ∷ codes "https://example.com:80" ∷ codes "ftp://a" ∷ codes "http://a.b" ∷ []
 unfolding scheme_of
 services = refl
 
 -- without one of the three schemes the scheme is empty
-no_scheme : map (image_of 22) (codes "Gopher://a.b/c" ∷ codes "/a" ∷ []) ≡ codes "gopher:" ∷ [] ∷ []
+no_scheme : map (item_of rule.Service) (codes "Gopher://a.b/c" ∷ codes "/a" ∷ []) ≡ codes "gopher:" ∷ [] ∷ []
 unfolding scheme_of
 no_scheme = refl
 
 -- a domain is counted in lower case, and every other feature as it is
-other_images : map (λ number. image_of number (codes "A.b/C")) (21 ∷ 23 ∷ 24 ∷ 25 ∷ 26 ∷ [])
+other_items : map (λ by. item_of by (codes "A.b/C")) (rule.Url ∷ rule.Domain ∷ rule.Ip ∷ rule.Ether ∷ rule.Find ∷ [])
     ≡ codes "A.b/C" ∷ codes "a.b/c" ∷ codes "A.b/C" ∷ codes "A.b/C" ∷ codes "A.b/C" ∷ []
-other_images = refl
+other_items = refl
 
 -- ---- rows
 

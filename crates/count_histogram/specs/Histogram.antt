@@ -1,37 +1,22 @@
--- The text of a histogram: a header, and a row for each image that features have.
-use Rattle.std.specs.Prelude.{ℕ, Bool, List, [], ◌∷◌, ◌++◌, map, take, drop, codes, filter, flat_map, count_by, unwrap_or, bytes_eq, nat_lt, ◌&&◌, ◌||◌, ◌==◌, if◌then◌else◌}
-use Rattle.std.specs.List.{list_any, before_first}
+-- The text of a histogram: a header, and a row for each item that features have.
+use Rattle.std.specs.Prelude.{ℕ, Bool, List, [], ◌∷◌, ◌++◌, Option, Some, None, map, codes, filter, flat_map, count_by, bytes_eq, nat_lt, ◌&&◌, ◌||◌, ◌==◌, if◌then◌else◌}
+use Rattle.std.specs.List.{list_any}
 use Rattle.std.specs.Ordering.{is_lt, nat_cmp}
 use Rattle.std.specs.Cmp.Lexicographic.{slice_cmp}
-use Rattle.std.specs.Str.{str_to_ascii_lowercase}
 use Rattle.std.specs.Fmt.{decimal}
-use Rattle.byte_kit.specs.Classes.{is_one_of}
 use Rattle.forensic_path.specs.declared.feature.Classed.{Classed}
 use Rattle.feature_escape.specs.Escape.{escape_of}
 use Rattle.feature_file.specs.FeatureFile.{header_of, stands_in}
-use Rattle.scan_url.specs.Url.{scheme_of}
+use Rattle.count_histogram.specs.Rules.{rule_of, source_of, item_of}
+use Rattle.count_histogram.specs.declared.rule.Rule.{Rule}
 use Rattle.count_histogram.specs.declared.row.Row.{Row}
 
 -- ---- what is counted
 
--- a URL's service: its scheme and what follows it up to the first `/`, `?` or `#`, in lower case
-abbrev pub service_of : List ℕ → List ℕ
-service_of url =
-    let scheme = unwrap_or (scheme_of url) 0 in
-    str_to_ascii_lowercase (take scheme url ++ before_first (is_one_of (codes "/?#")) (drop scheme url))
-
--- the image of a feature: its service in file 22, the feature in lower case in file 23, and else the feature
-abbrev pub image_of : ℕ → List ℕ → List ℕ
-image_of number feature =
-    if number == 22 then service_of feature
-    else (if number == 23 then str_to_ascii_lowercase feature else feature)
-
--- The feature file whose features are counted, which has those of a kind that aren't stopped:
--- that of URLs for files 21 and 22, and 2, 3, 4 and 7 from there on.
-abbrev pub source_of : ℕ → ℕ
-source_of number =
-    if number == 21 then 1 else (if number == 22 then 1 else (if number == 23 then 2
-    else (if number == 24 then 3 else (if number == 25 then 4 else 7))))
+-- the items of the features of a rule's kind that aren't stopped, in the list's order; a file that is no histogram has none
+abbrev pub items_of : Option Rule → List Classed → List (List ℕ)
+items_of (Some rule) list = map (λ (c : Classed). item_of rule c.item.feature) (filter (stands_in (source_of rule)) list)
+items_of None list = []
 
 -- ---- the rows
 
@@ -66,5 +51,4 @@ row_line_of row = codes "n=" ++ decimal row.count ++ codes "\t" ++ escape_of row
 -- the text of a histogram's file for a list of features
 unfoldable pub histogram_text : ℕ → List Classed → List ℕ
 histogram_text number list =
-    let images = map (λ (c : Classed). image_of number c.item.feature) (filter (stands_in (source_of number)) list) in
-    header_of number ++ flat_map (λ row. row_line_of row ++ codes "\n") (rows_of images)
+    header_of number ++ flat_map (λ row. row_line_of row ++ codes "\n") (rows_of (items_of (rule_of number) list))

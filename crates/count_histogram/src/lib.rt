@@ -1,10 +1,12 @@
-//! Histograms: how often each image of the features of a kind stands in a list, the most frequent
-//! first. An image is what is counted of a feature, as the service of a URL.
+//! Histograms: how often each item of the features of a kind stands in a list, the most frequent first.
+//! An item is what is counted of a feature, as the service of a URL, and a [`Rule`] says which.
 //!
-//! `specs/Histogram.antt` says which image a feature has in which file, which rows a list has, and in
-//! which order they stand.
+//! `specs/Rules.antt` says which rule each histogram has, and which item a feature has by a rule;
+//! `specs/Histogram.antt` says which [`Row`]s a list of items has, and in which order they stand.
 #![tactic(auto)]
 
 mod row;
+mod rule;
 
 pub use row::Row;
+pub use rule::Rule;

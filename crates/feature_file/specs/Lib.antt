@@ -1,2 +1,3 @@
 pub mod FeatureFile
 pub mod Files
+pub mod Lines

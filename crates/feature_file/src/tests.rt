@@ -1,4 +1,4 @@
-use crate::{file_name, header_of, is_written, line_into, line_of, stands_in};
+use crate::{file_name, header_of, is_written, line_into, line_of, read_line, stands_in};
 use byte_kit::Bytes;
 use forensic_path::{Class, Classed, Decoder, Feature, Kind, Path, Step, Steps};
 use std::alloc::Global;
@@ -110,5 +110,64 @@ fn a_feature_file_is_a_header_and_lines(rt: HostRuntime) -> Result<(), Fail> {
         &mut text,
     )?;
     assert_eq!(rt; text.as_slice(), b"\n11\ta.b\t//a.b/\\x09".as_slice());
+    Ok(())
+}
+
+#[test]
+fn what_is_written_is_read_back(rt: HostRuntime) -> Result<(), Fail> {
+    let alloc = rt.alloc();
+    let rows = [
+        (
+            4,
+            0,
+            b"http://a.b".as_slice(),
+            b"see http://a.b".as_slice(),
+            b"4\thttp://a.b\tsee http://a.b".as_slice(),
+        ),
+        (
+            7,
+            1,
+            b"a\\b",
+            b"\ta\\b\n\xc8",
+            b"7-HEX-0\ta\\x5Cb\t\\x09a\\x5Cb\\x0A\\xC8",
+        ),
+        (
+            0,
+            7,
+            b"a",
+            b"",
+            b"0-HEX-0-HEX-0-HEX-0-HEX-0-HEX-0-HEX-0-HEX-0\ta\t",
+        ),
+    ];
+    for (top, steps, feature, context, line) in rows {
+        let written = line_of(alloc, &path(alloc, top, steps)?, feature, context)?;
+        assert_eq!(rt; written.as_slice(), line);
+        let Some(read) = read_line(alloc, line)? else {
+            panic!(rt; "a line is refused");
+        };
+        assert_eq!(rt; read.path.top, top);
+        assert_eq!(rt; read.path.steps.items().len() as u64, steps);
+        assert_eq!(rt; read.feature.as_slice(), feature);
+        assert_eq!(rt; read.context.as_slice(), context);
+    }
+    Ok(())
+}
+
+#[test]
+fn other_texts_are_no_lines(rt: HostRuntime) -> Result<(), Fail> {
+    let alloc = rt.alloc();
+    for text in [
+        b"".as_slice(),
+        b"x",
+        b"# triage feature file, format 1",
+        b"4\ta",
+        b"4\ta\ta\r",
+        b"4\ta\ta\t\t",
+        b"4\ta\t\\x61",
+        b"04\ta\ta",
+        b"0-HEX-0-HEX-0-HEX-0-HEX-0-HEX-0-HEX-0-HEX-0-HEX-0\ta\ta",
+    ] {
+        assert!(rt; read_line(alloc, text)?.is_none());
+    }
     Ok(())
 }

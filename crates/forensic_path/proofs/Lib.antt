@@ -1,3 +1,3 @@
-mod OnePath
+pub mod OnePath
 mod Reading
 mod Rows
