@@ -1,6 +1,5 @@
 // A source over real files. It tells no content, since no contract can name what a file holds.
-ghost use Rattle.std.specs.Prelude.{◌≡◌, ◌<◌, ◌≤◌, ◌^◌, true, None, []};
-ghost use Rattle.host_source.specs.Source.{SourceNature};
+ghost use Rattle.std.specs.Prelude.{◌≡◌, ◌<◌, ◌≤◌, true, None, []};
 ghost use Rattle.byte_kit.specs.Counts.{counted};
 
 use byte_kit::Name;

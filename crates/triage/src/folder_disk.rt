@@ -1,6 +1,5 @@
 // A disk over a real folder. It tells no content, since no contract can name what a file holds.
-ghost use Rattle.std.specs.Prelude.{◌≡◌, ◌<◌, ◌≤◌, ◌^◌, true, false, [], is_some, None, Ok, IsErr, IfOk, MatchResult};
-ghost use Rattle.byte_kit.specs.Counts.{Rose};
+ghost use Rattle.std.specs.Prelude.{◌≡◌, ◌<◌, ◌^◌, true, false, [], is_some, None, Ok, IsErr, IfOk, MatchResult};
 ghost use Rattle.host_disk.specs.Disk.{IsDiskCall};
 
 use byte_kit::NoMemory;
