@@ -1,5 +1,5 @@
 // What the scan asks of the place that it writes to.
-ghost use Rattle.std.specs.Prelude.{◌≡◌, ℕ, ◌+◌, ◌^◌, ◌<◌, ◌≤◌, List, length, take, drop, true, false, Bool, IsTrue, IfOk, OnOk, OnErr};
+ghost use Rattle.std.specs.Prelude.{◌≡◌, ℕ, ◌+◌, ◌^◌, ◌<◌, ◌≤◌, length, take, drop, true, false, Bool, IsTrue, IfOk, OnOk, OnErr};
 ghost use Rattle.byte_kit.specs.Places.{put};
 ghost use Rattle.host_disk.specs.Files.{Files, written, OneTorn, OnePartlyCut};
 ghost use Rattle.host_disk.specs.Disk.{DiskNature, IsDiskCall};

@@ -1,5 +1,5 @@
 // A source in memory, for tests: it tells what it holds, and fails where it is told to.
-ghost use Rattle.std.specs.Prelude.{◌≡◌, ◌+◌, ◌^◌, ◌<◌, ◌⊎◌, ◌↔◌, ℕ, length, None, IsErr, IfOk, OnOk, OnErr, position};
+ghost use Rattle.std.specs.Prelude.{◌≡◌, ◌^◌, ◌<◌, ◌⊎◌, ◌↔◌, ℕ, length, None, IsErr, IfOk, OnOk, OnErr, position};
 ghost use Rattle.byte_kit.specs.Calls.{no_calls, with_failing};
 ghost use Rattle.byte_kit.specs.Counts.{CountsFault};
 ghost use Rattle.host_source.specs.Calls.{IsDue, IsCall};

@@ -1,5 +1,5 @@
 // What the scan asks of whatever holds an image.
-ghost use Rattle.std.specs.Prelude.{◌≡◌, ℕ, ◌+◌, ◌<◌, List, length, None, IsTrue, IfOk, OnOk, OnErr, Option};
+ghost use Rattle.std.specs.Prelude.{◌≡◌, ℕ, ◌<◌, length, None, IsTrue, IfOk, OnOk, OnErr, Option};
 ghost use Rattle.byte_kit.specs.Counts.{CountsFault};
 ghost use Rattle.host_source.specs.Source.{SourceNature, Slot, Attaches, IsWithin, Reads};
 

@@ -1,5 +1,5 @@
 // A source of one name, whose calls succeed.
-ghost use Rattle.std.specs.Prelude.{◌≡◌, ◌^◌, ◌<◌, length};
+ghost use Rattle.std.specs.Prelude.{◌^◌, ◌<◌, length};
 ghost use Rattle.host_source.specs.Source.{HoldsOnly, IsDetached};
 
 use crate::entry::copy_from;

@@ -1,7 +1,6 @@
 // A source over real files. It tells no content, since no contract can name what a file holds.
-ghost use Rattle.std.specs.Prelude.{◌≡◌, ◌<◌, ◌≤◌, ◌^◌, true, None, []};
-ghost use Rattle.host_source.specs.Source.{SourceNature};
-ghost use Rattle.byte_kit.specs.Counts.{Rose};
+ghost use Rattle.std.specs.Prelude.{◌≡◌, ◌<◌, ◌≤◌, true, None, []};
+ghost use Rattle.byte_kit.specs.Counts.{counted};
 
 use byte_kit::Name;
 use host_source::{Source, SourceFault};
@@ -34,7 +33,8 @@ pub struct FileSource<R> {
 impl<R: Files<File = File> + Drop> FileSource<R> {
     /// A source with nothing attached, over the files of a runtime.
     pub fn make(alloc: Global, rt: R) -> FileSource<R>
-        ensures { result.parts.items ≡ [] }
+        ensures detached { result.parts.items ≡ [] }
+        ensures faults { result.faults ≡ 0 }
     {
         FileSource {
             rt,
@@ -58,10 +58,10 @@ pub fn read_part(mut file: &File, at: u64, into: &mut [u8]) -> io::Result<()> {
     file.read_exact(into)
 }
 
-// Counts a fault.
+// Counts one fault.
 fn fault(faults: &mut u64) -> SourceFault
     ensures later { faults.old ≤ faults.new }
-    ensures rose { Rose faults.old faults.new }
+    ensures one { faults.new ≡ counted faults.old }
 {
     *faults = faults.saturating_add(1);
     SourceFault

@@ -1,7 +1,6 @@
 // A disk over a real folder. It tells no content, since no contract can name what a file holds.
-ghost use Rattle.std.specs.Prelude.{◌≡◌, ◌<◌, ◌≤◌, ◌^◌, true, false, [], is_some, None, Ok, IsErr, IfOk, MatchResult};
-ghost use Rattle.byte_kit.specs.Counts.{Rose};
-ghost use Rattle.host_disk.specs.Disk.{HasDiskCause};
+ghost use Rattle.std.specs.Prelude.{◌≡◌, ◌<◌, ◌^◌, true, false, [], is_some, None, Ok, IsErr, IfOk, MatchResult};
+ghost use Rattle.host_disk.specs.Disk.{IsDiskCall};
 
 use byte_kit::NoMemory;
 use host_disk::{Disk, DiskFault};
@@ -43,7 +42,8 @@ pub struct FolderDisk<R> {
 impl<R: Files<File = File> + Drop> FolderDisk<R> {
     /// A disk that isn't mounted, over the files of a runtime.
     pub fn make(alloc: Global, rt: R) -> FolderDisk<R>
-        ensures { result.folder ≡ None }
+        ensures unmounted { result.folder ≡ None }
+        ensures faults { result.faults ≡ 0 }
     {
         FolderDisk {
             rt,
@@ -94,9 +94,9 @@ fn length_of<R: Files<File = File>>(rt: &R, path: Path<'_>) -> io::Result<u64>
     Ok(bytes)
 }
 
-// Counts a fault where there was an error.
+// Counts one fault where there was an error.
 fn counted<T: Drop>(faults: &mut u64, done: io::Result<T>) -> Result<T, DiskFault>
-    ensures cause { HasDiskCause faults.old faults.new false result }
+    ensures cause { IsDiskCall faults.old faults.new false result }
     ensures value { MatchResult done (λ value. result ≡ Ok value) (λ _. IsErr result) }
 {
     match done {
