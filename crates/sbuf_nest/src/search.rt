@@ -37,7 +37,7 @@ pub trait Search {
 
     /// Appends the marks of the place whose Look is given. Its one refusal is want of memory, which
     /// leaves the first few of them appended.
-    fn add_marks(&mut self, look: &Look, place: usize, found: &mut Found) -> Result<(), NoMemory>
+    fn marks_into(&mut self, look: &Look, place: usize, found: &mut Found) -> Result<(), NoMemory>
         ensures judge { judge self.new ≡ judge self.old }
         ensures ok { OnOk result (found.new ≡ found.old ++ judge self.old (seen look.now) place) }
         ensures err { OnErr result (AppendsFirst found.old found.new (judge self.old (seen look.now) place)) };
@@ -78,7 +78,7 @@ fn add_places<S: Search>(
         (AppendsFirst found.old found.new (marks_of (S.judge search.old) sb.now.bytes.now places.from (places.to - places.from))) }
 {
     for place in places.from..places.to {
-        search.add_marks(&sb.look(place), place, found)?;
+        search.marks_into(&sb.look(place), place, found)?;
     }
     Ok(())
 }

@@ -113,7 +113,7 @@ impl Search for ByteSearch {
         None
     }
 
-    fn add_marks(&mut self, look: &Look, place: usize, found: &mut Found) -> Result<(), NoMemory> {
+    fn marks_into(&mut self, look: &Look, place: usize, found: &mut Found) -> Result<(), NoMemory> {
         self.judged = self.judged.wrapping_add(1);
         if !stands_in(self.byte, look) {
             return Ok(());

@@ -86,7 +86,7 @@ impl<'a> Search for UrlSearch<'a> {
         })
     }
 
-    fn add_marks(&mut self, look: &Look, place: usize, found: &mut Found) -> Result<(), NoMemory> {
+    fn marks_into(&mut self, look: &Look, place: usize, found: &mut Found) -> Result<(), NoMemory> {
         let url = if self.want_url { url_len(look) } else { None };
         let domain = if self.want_domain {
             domain_len(look)

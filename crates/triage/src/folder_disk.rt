@@ -3,6 +3,7 @@ ghost use Rattle.std.specs.Prelude.{◌≡◌, ◌<◌, ◌^◌, true, false, []
 ghost use Rattle.host_disk.specs.Disk.{IsDiskCall};
 
 use byte_kit::NoMemory;
+use feature_file::file_name;
 use host_disk::{Disk, DiskFault};
 use std::alloc::Global;
 use std::fs::{File, Files};
@@ -10,8 +11,8 @@ use std::io::{Read, Seek, SeekFrom, Write};
 use std::path::{Path, PathBuf};
 use std::{fs, io};
 
-// The files that have names.
-const NAMES: [(u32, &str); 2] = [(1, "url.txt"), (2, "domain.txt")];
+// How many files a disk has; those that have names are a folder's.
+const FILE_COUNT: u32 = 64;
 
 // The least length in bytes that a file of a disk can't have.
 const FILE_END: u64 = 1 << 62;
@@ -58,9 +59,11 @@ impl<R: Files<File = File> + Drop> FolderDisk<R> {
 fn folder_at(alloc: Global, name: &str) -> Result<Folder, NoMemory> {
     let path = Path::new(name).to_path_buf(alloc)?;
     let mut files = Vec::new(alloc);
-    for (number, file) in NAMES {
-        let path = path.join(alloc, file)?;
-        files.push(NamedFile { number, path })?;
+    for number in 0..FILE_COUNT {
+        if let Some(file) = file_name(number) {
+            let path = path.join(alloc, file)?;
+            files.push(NamedFile { number, path })?;
+        }
     }
     Ok(Folder { path, files })
 }

@@ -16,10 +16,10 @@ use std::process::ExitCode;
 use std::{env, io};
 use triage_run::{Status, triage};
 
-/// The exit status where a word is no text, or where there are more words than can be numbered.
+// The exit status where a word is no text, or where there are more words than can be numbered.
 const BAD_WORDS: u8 = 2;
 
-/// The most words that can be numbered.
+// The most words that can be numbered.
 const WORDS_MOST: usize = (1 << 32) - 1;
 
 fn main(rt: HostRuntime) -> ExitCode {

@@ -115,6 +115,6 @@ fn a_file_of_a_folder_is_written_read_and_cut(rt: HostRuntime) -> Result<(), Fai
     let text = fs::read_to_string(&rt, "report/url.txt")?;
     assert_eq!(rt; text.as_str(), "abXY");
     assert!(rt; disk.read_at(1, 2, &mut into).is_err());
-    assert_eq!(rt; disk.write_at(3, 0, b"no name"), Err(DiskFault::Failed));
+    assert_eq!(rt; disk.write_at(10, 0, b"no name"), Err(DiskFault::Failed));
     Ok(())
 }

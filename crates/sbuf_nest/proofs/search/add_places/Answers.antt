@@ -23,14 +23,14 @@ loop-place-preserved g c =
     let inv = c.loop-place.invariant in
     let one = one_place judge bytes place (g.S.Search.judge c.loop-place.search) (seen c.look.result) inv.judge c.look.ensures in
     record {
-      judge = c.in_ok-add_marks.ensures.judge ∙ inv.judge;
+      judge = c.in_ok-marks_into.ensures.judge ∙ inv.judge;
       found = appended judge bytes c.args.places.from place place c.loop-place.auto.place (omega arith) (none_here judge bytes place)
-          (place + 1) (omega arith) c.args.found.now c.loop-place.found c.add_marks.new.found inv.found
-          (subst (λ some. c.add_marks.new.found ≡ c.loop-place.found ++ some) one c.in_ok-add_marks.ensures.ok);
+          (place + 1) (omega arith) c.args.found.now c.loop-place.found c.marks_into.new.found inv.found
+          (subst (λ some. c.marks_into.new.found ≡ c.loop-place.found ++ some) one c.in_ok-marks_into.ensures.ok);
     }
 
-pub returns-in_err-add_marks-clause-err : goal.returns-in_err-add_marks-clause-err
-returns-in_err-add_marks-clause-err g c =
+pub returns-in_err-marks_into-clause-err : goal.returns-in_err-marks_into-clause-err
+returns-in_err-marks_into-clause-err g c =
     let judge = g.S.Search.judge c.args.search.now in
     let bytes = c.args.sb.now.bytes.now in
     let place = c.loop-place.place in
@@ -38,5 +38,5 @@ returns-in_err-add_marks-clause-err g c =
     let one = one_place judge bytes place (g.S.Search.judge c.loop-place.search) (seen c.look.result) inv.judge c.look.ensures in
     on_err c.from_residual.result
     (cut_short judge bytes c.args.places.from place place c.loop-place.auto.place (omega arith) (none_here judge bytes place)
-    (place + 1) c.args.places.to (omega arith) (omega (arith, c.loop-place-test.true)) c.args.found.now c.loop-place.found c.add_marks.new.found inv.found
-    (subst (AppendsFirst c.loop-place.found c.add_marks.new.found) one c.in_err-add_marks.ensures.err))
+    (place + 1) c.args.places.to (omega arith) (omega (arith, c.loop-place-test.true)) c.args.found.now c.loop-place.found c.marks_into.new.found inv.found
+    (subst (AppendsFirst c.loop-place.found c.marks_into.new.found) one c.in_err-marks_into.ensures.err))
