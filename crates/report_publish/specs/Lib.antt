@@ -1,0 +1,3 @@
+pub mod Faults
+pub mod OpenFile
+pub mod Publish
