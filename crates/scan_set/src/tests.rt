@@ -23,18 +23,20 @@ fn plan_of(alloc: Global, scanners: u16, context: u16) -> ScanPlan
     }
 }
 
-// The feature at this index is of this kind, and stands with this text at this place of the image.
-fn shows(features: &[Feature], i: usize, want: Option<(Kind, u64, &str)>) -> bool {
-    let Some(found) = features.get(i) else {
-        return want.is_none();
-    };
-    let Some((kind, top, text)) = want else {
+// A feature by its kind, its place in the image and its text.
+type Row = (Kind, u64, &'static str);
+
+// The features are these, in this order, each at a path of one place.
+fn are(features: &[Feature], want: &[Row]) -> bool {
+    if features.len() != want.len() {
         return false;
-    };
-    found.kind == kind
-        && found.path.top == top
-        && found.path.steps.items().is_empty()
-        && found.feature.as_slice() == text.as_bytes()
+    }
+    features.iter().zip(want.iter()).all(|(found, row)| {
+        found.kind == row.0
+            && found.path.top == row.1
+            && found.path.steps.items().is_empty()
+            && found.feature.as_slice() == row.2.as_bytes()
+    })
 }
 
 #[test]
@@ -50,11 +52,11 @@ fn each_scan_by_the_same_tools_finds_once_what_lies_across_a_border(
         bytes.resize(131073, b'.')?;
         let features = scan_owned(&Sbuf::child(bytes.as_slice()), &plan, &mut tools)?;
         let place = at as u64;
-        let url = Some((Kind::Url, place, "http://a.b/"));
-        let domain = Some((Kind::Domain, place + 7, "a.b"));
-        assert!(rt; shows(features.as_slice(), 0, url), "at {at}");
-        assert!(rt; shows(features.as_slice(), 1, domain), "at {at}");
-        assert_eq!(rt; features.len(), 2, "at {at}");
+        let want = [
+            (Kind::Url, place, "http://a.b/"),
+            (Kind::Domain, place + 7, "a.b"),
+        ];
+        assert!(rt; are(features.as_slice(), want.as_slice()), "at {at}");
     }
     Ok(())
 }
@@ -64,19 +66,19 @@ fn the_owned_places_have_the_features_of_the_scanners_that_are_on(
     rt: HostRuntime,
 ) -> Result<(), Fail> {
     let text = b"http://a.b/?u=http://c.d/";
-    let first = Some((Kind::Url, 1000, "http://a.b/?u=http://c.d/"));
-    let first_domain = Some((Kind::Domain, 1007, "a.b"));
-    let second = Some((Kind::Url, 1014, "http://c.d/"));
-    let second_domain = Some((Kind::Domain, 1021, "c.d"));
-    let rows = [
-        ((0, 25), 3, [first, first_domain, second, second_domain]),
-        ((0, 25), 1, [first, second, None, None]),
-        ((0, 25), 2, [first_domain, second_domain, None, None]),
-        ((0, 25), 0, [None, None, None, None]),
-        ((1, 21), 3, [first_domain, second, None, None]),
-        ((7, 8), 3, [first_domain, None, None, None]),
-        ((8, 14), 3, [None, None, None, None]),
-        ((7, 7), 3, [None, None, None, None]),
+    let first = (Kind::Url, 1000, "http://a.b/?u=http://c.d/");
+    let first_domain = (Kind::Domain, 1007, "a.b");
+    let second = (Kind::Url, 1014, "http://c.d/");
+    let second_domain = (Kind::Domain, 1021, "c.d");
+    let rows: [((usize, usize), u16, &[Row]); 8] = [
+        ((0, 25), 3, &[first, first_domain, second, second_domain]),
+        ((0, 25), 1, &[first, second]),
+        ((0, 25), 2, &[first_domain, second_domain]),
+        ((0, 25), 0, &[]),
+        ((1, 21), 3, &[first_domain, second]),
+        ((7, 8), 3, &[first_domain]),
+        ((8, 14), 3, &[]),
+        ((7, 7), 3, &[]),
     ];
     for ((from, to), scanners, want) in rows {
         if from <= to && to <= text.len() {
@@ -84,13 +86,7 @@ fn the_owned_places_have_the_features_of_the_scanners_that_are_on(
             let plan = plan_of(rt.alloc(), scanners, 16);
             let mut tools = Tools::make(rt.alloc(), &plan)?;
             let features = scan_owned(&sb, &plan, &mut tools)?;
-            for i in 0..4 {
-                assert!(rt;
-                    shows(features.as_slice(), i, want[i]),
-                    "at {i} of {from} to {to}"
-                );
-            }
-            assert_eq!(rt; features.get(4).is_none(), true, "at {from} to {to}");
+            assert!(rt; are(features.as_slice(), want), "at {from} to {to}");
         }
     }
     Ok(())
