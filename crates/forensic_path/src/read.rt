@@ -8,7 +8,7 @@ use crate::{Decoder, Path, PathFault, STEPS_MOST, Step, Steps};
 use byte_kit::dec_read;
 use std::alloc::Global;
 
-/// What stands between the parts of a text.
+// What stands between the parts of a text.
 const DASH: u8 = b'-';
 
 /// Reads the text of a path of at most [`STEPS_MOST`] steps.
@@ -31,7 +31,7 @@ pub fn path_read(alloc: Global, text: &[u8]) -> Result<Path, PathFault>
     Ok(Path { top, steps })
 }
 
-/// Reads steps up to the end of the text. Those past the limit are counted, and not kept.
+// Reads steps up to the end of the text. Those past the limit are counted, and not kept.
 fn steps_read(alloc: Global, text: &[u8]) -> Result<Steps, PathFault>
     requires { FollowsPart text.now }
     ensures ok { IfOk result (λ steps. HaveText steps text.now) }
@@ -58,7 +58,7 @@ fn steps_read(alloc: Global, text: &[u8]) -> Result<Steps, PathFault>
     Ok(steps)
 }
 
-/// The step at the front of a text, and what follows it.
+// The step at the front of a text, and what follows it.
 fn step_read(text: &[u8]) -> Option<(Step, &[u8])>
     ensures step { IfSome result (λ r. IsLawfulStep r.0) }
     ensures text { IfSome result (λ r. text.now ≡ step_text r.0 ++ r.1.now) }
@@ -73,7 +73,7 @@ fn step_read(text: &[u8]) -> Option<(Step, &[u8])>
     Some((Step { by, at }, rest))
 }
 
-/// What stands behind a dash at the front.
+// What stands behind a dash at the front.
 fn behind_dash(text: &[u8]) -> Option<&[u8]>
     ensures some { IfSome result (λ rest. text.now ≡ DASH ∷ rest.now) }
     ensures none { IfNone result ((rest : List ℕ) → text.now ≢ DASH ∷ rest) }
@@ -81,7 +81,7 @@ fn behind_dash(text: &[u8]) -> Option<&[u8]>
     text.strip_prefix(&[DASH])
 }
 
-/// The bytes ahead of the first dash, and the rest.
+// The bytes ahead of the first dash, and the rest.
 fn cut_at_dash(text: &[u8]) -> (&[u8], &[u8])
     ensures { IsCut text.now result.0.now result.1.now }
 {
@@ -89,7 +89,7 @@ fn cut_at_dash(text: &[u8]) -> (&[u8], &[u8])
     text.split_at(end.unwrap_or(text.len()))
 }
 
-/// The decoder of this name.
+// The decoder of this name.
 fn decoder_read(name: &[u8]) -> Option<Decoder>
     ensures lawful { IfSome result IsLawfulDecoder }
     ensures name { IfSome result (λ decoder. decoder_text decoder ≡ name.now) }
@@ -109,7 +109,7 @@ fn decoder_read(name: &[u8]) -> Option<Decoder>
     Some(Decoder::Xor(mask))
 }
 
-/// The mask, 1 to 255, of these digits.
+// The mask, 1 to 255, of these digits.
 fn mask_read(digits: &[u8]) -> Option<u8>
     ensures some { IfSome result (λ mask. (0 < mask) × (decimal mask ≡ digits.now)) }
     ensures none { IfNone result ((mask : ℕ) → 0 < mask → mask < 256 → decimal mask ≢ digits.now) }

@@ -90,6 +90,34 @@ fn writes_and_cuts_change_their_file_alone(rt: HostRuntime) -> Result<(), Fail> 
     Ok(())
 }
 
+// The calls of the test below.
+const MADE: [DiskCall; 12] = [
+    DiskCall::Mount,
+    DiskCall::Mount,
+    DiskCall::Write {
+        file: 3,
+        at: 0,
+        bytes: 1,
+    },
+    DiskCall::Write {
+        file: 3,
+        at: 1,
+        bytes: 1,
+    },
+    DiskCall::Cut { file: 3, to: 1 },
+    DiskCall::Length { file: 3 },
+    DiskCall::Read {
+        file: 3,
+        at: 1,
+        bytes: 2,
+    },
+    DiskCall::Length { file: 3 },
+    DiskCall::Sync { file: 3 },
+    DiskCall::Sync { file: 3 },
+    DiskCall::Length { file: 3 },
+    DiskCall::Cut { file: 3, to: 2 },
+];
+
 #[test]
 fn a_named_call_fails_once_and_changes_nothing(rt: HostRuntime) -> Result<(), Fail> {
     let mut disk = MemDisk::make(rt.alloc());
@@ -111,33 +139,7 @@ fn a_named_call_fails_once_and_changes_nothing(rt: HostRuntime) -> Result<(), Fa
     cut(&rt, &mut disk, 2)?;
     assert_eq!(rt; disk.file(3), b"aB".as_slice());
     assert_eq!(rt; disk.writes(), 4);
-    let made = [
-        DiskCall::Mount,
-        DiskCall::Mount,
-        DiskCall::Write {
-            file: 3,
-            at: 0,
-            bytes: 1,
-        },
-        DiskCall::Write {
-            file: 3,
-            at: 1,
-            bytes: 1,
-        },
-        DiskCall::Cut { file: 3, to: 1 },
-        DiskCall::Length { file: 3 },
-        DiskCall::Read {
-            file: 3,
-            at: 1,
-            bytes: 2,
-        },
-        DiskCall::Length { file: 3 },
-        DiskCall::Sync { file: 3 },
-        DiskCall::Sync { file: 3 },
-        DiskCall::Length { file: 3 },
-        DiskCall::Cut { file: 3, to: 2 },
-    ];
-    assert_eq!(rt; disk.calls(), made.as_slice());
+    assert_eq!(rt; disk.calls(), MADE.as_slice());
     Ok(())
 }
 
