@@ -11,7 +11,8 @@ use Rattle.triage_run.specs.declared.status.ReadPlace.TheVariants.{Image, Page}
 use Rattle.triage_run.specs.declared.status.Unbuilt.TheVariants.{Parts, Size}
 use Rattle.triage_run.specs.declared.words.BadWord.{BadWord}
 use Rattle.triage_run.specs.Call.{Call, call_of, IsOnePart, IsCause, IsExact, IsComplete, HasParts, Answers}
-use Rattle.triage_run.specs.Sources.{Pairwise, OnlyParts, IsReady}
+use Rattle.triage_run.specs.Sources.{Pairwise}
+use Rattle.triage_run.specs.Status.{IfDone}
 use Rattle.triage_run.specs.Words.{ScanWords}
 
 all_same : {A : Type 0} (R : A → A → Type 0) → ((x : A) → R x x) → (xs : List A) → Pairwise R xs xs
@@ -23,6 +24,12 @@ pub first_changed : {A : Type 0} (R : A → A → Type 0) → ((x : A) → R x x
     x ≡ slice_index_or xs 0 x → R x y → Pairwise R xs (slice_set xs 0 y)
 first_changed R same [] x y some is r = absurd (omega (arith, some))
 first_changed R same (z ∷ xs) x y some is r = (subst (λ w. R w y) is r, all_same R same xs)
+
+-- the same where the call was done, beside what holds of the disk
+pub done_changed : {A : Type 0} (Q : Type 0) (R : A → A → Type 0) → ((x : A) → R x x) → (xs : List A) (x y : A) → 0 < length xs →
+    x ≡ slice_index_or xs 0 x → (status : Status) → IfDone status (R x y × Q) → IfDone status (Pairwise R xs (slice_set xs 0 y) × Q)
+done_changed Q R same xs x y some is Done h = (first_changed R same xs x y some is h.0, h.1)
+done_changed Q R same xs x y some is _ h = tt
 
 all_hold : {A : Type 0} (P Q : A → Type 0) → ((x : A) → P x → Q x) → (xs : List A) → All P xs → AllByRecursion Q xs
 all_hold P Q gives [] all = tt

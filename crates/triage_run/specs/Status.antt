@@ -38,6 +38,11 @@ IsAheadOf step status = (any < step_of status) × (step_of status < step)
 abbrev pub IsBehind : ℕ → Status → Type 0
 IsBehind step status = step < step_of status
 
+-- what holds where the call was done
+abbrev pub IfDone : Status → Type 0 → Type 0
+IfDone Done P = P
+IfDone _ P = Unit {0}
+
 -- what holds where the call ended with a fault of reading
 abbrev pub IfReadFault : Status → Type 0 → Type 0
 IfReadFault (ReadFault place) P = P

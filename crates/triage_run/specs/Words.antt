@@ -29,3 +29,7 @@ words_of (command ∷ places) =
     else (if nat_lt PLACES_MOST (length places) then Err (record { word = PLACES_MOST + 1; why = TooMany })
     else (if nat_lt (length places) 2 then Err (record { word = length places + 1; why = PlaceMissing })
     else Ok (record { parts = take (length places - 1) places; out = slice_index_or places (length places - 1) [] }))))
+
+-- the command that the words of a call give, or the first bad one of them
+abbrev pub command_of : {A : Type 0} → List (String A) → Result ScanWords BadWord
+command_of words = words_of (texts words)

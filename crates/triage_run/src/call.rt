@@ -4,9 +4,9 @@ ghost use Rattle.std.specs.List.{All, AllByRecursion};
 ghost use Rattle.triage_run.specs.Call.{call_of, Answers, IsCause, IsExact, HasParts};
 ghost use Rattle.triage_run.specs.Kept.{KeepsSource, KeepsDisk, KeepsOthers};
 ghost use Rattle.triage_run.specs.Sources.{TellAlike, IsReady, Pairwise, OnlyParts};
-ghost use Rattle.triage_run.specs.Status.{IfReadFault, IsAheadOf, IsBehind};
+ghost use Rattle.triage_run.specs.Status.{IfDone, IfReadFault, IsAheadOf, IsBehind};
 ghost use Rattle.triage_run.specs.Steps.{attach, mount};
-ghost use Rattle.triage_run.specs.Words.{texts, words_of};
+ghost use Rattle.triage_run.specs.Words.{command_of};
 
 use crate::scan::scan_part;
 use crate::status::{Status, Unbuilt};
@@ -33,9 +33,9 @@ where
     requires some { 1 ≤ vec_len sources }
     requires at_most_eight { vec_len sources ≤ 8 }
     requires alike { TellAlike S.nature sources.items }
-    requires ready { All (IsReady S.nature S.slots (words_of (texts words.now))) sources.items }
+    requires ready { All (IsReady S.nature S.slots (command_of words.now)) sources.items }
     requires unmounted { D.mounted disk ≡ false }
-    requires asked { IfOk (words_of (texts words.now)) (λ scan. IsTrue ((D.nature disk).may_mount scan.out)) }
+    requires asked { IfOk (command_of words.now) (λ scan. IsTrue ((D.nature disk).may_mount scan.out)) }
 
     // Every object comes back, tells what it told, and has a count of faults that is no lower.
     ensures sources { Pairwise (KeepsSource S.nature S.faults) sources.items result.sources.items }
@@ -47,7 +47,7 @@ where
 
     // No slot but those of the parts is attached. Behind the mount the disk is mounted. No file but those of
     // the report differs, and none where the image could not be read.
-    ensures slots { AllByRecursion (λ s. OnlyParts (words_of (texts words.now)) (S.slots s)) result.sources.items }
+    ensures slots { AllByRecursion (λ s. OnlyParts (command_of words.now) (S.slots s)) result.sources.items }
     ensures mounted { IsBehind mount result.status → D.mounted result.disk ≡ true }
     ensures others { KeepsOthers (D.nature disk) (D.files disk) (D.files result.disk) }
     ensures unwritten { IfReadFault result.status (D.files result.disk ≡ D.files disk) }
@@ -55,7 +55,11 @@ where
     // Done leaves the report of the whole image; each refusal has its cause, and each cause that is seen
     // first is refused; one lawful part over objects that don't fail is done, or wants memory.
     ensures answers { Answers (call_of S.nature S.slots S.faults D.nature D.files D.faults
-        (words_of (texts words.now)) sources.items result.sources.items disk result.disk) result.status }
+        (command_of words.now) sources.items result.sources.items disk result.disk) result.status }
+
+    // And done comes only where no call failed: no count of faults differs.
+    ensures sure { IfDone result.status (Pairwise (λ s t. S.faults t ≡ S.faults s) sources.items result.sources.items
+        × (D.faults result.disk ≡ D.faults disk)) }
 {
     let mut sources = sources;
     let mut disk = disk;
@@ -76,23 +80,24 @@ fn scan_words<S: Source, D: Disk>(
     disk: &mut D,
 ) -> Status
     requires words { length words.now < 2 ^ 32 }
-    requires ready { IsReady S.nature S.slots (words_of (texts words.now)) source.old }
+    requires ready { IsReady S.nature S.slots (command_of words.now) source.old }
     requires unmounted { D.mounted disk.old ≡ false }
-    requires asked { IfOk (words_of (texts words.now)) (λ scan. IsTrue ((D.nature disk.old).may_mount scan.out)) }
+    requires asked { IfOk (command_of words.now) (λ scan. IsTrue ((D.nature disk.old).may_mount scan.out)) }
     ensures source { KeepsSource S.nature S.faults source.old source.new }
     ensures disk { KeepsDisk D.nature D.faults disk.old disk.new }
     ensures unread { IsAheadOf attach result → source.new ≡ source.old }
     ensures untouched { IsAheadOf mount result → disk.new ≡ disk.old }
-    ensures slots { OnlyParts (words_of (texts words.now)) (S.slots source.new) }
+    ensures slots { OnlyParts (command_of words.now) (S.slots source.new) }
     ensures mounted { IsBehind mount result → D.mounted disk.new ≡ true }
     ensures others { KeepsOthers (D.nature disk.old) (D.files disk.old) (D.files disk.new) }
     ensures unwritten { IfReadFault result (D.files disk.new ≡ D.files disk.old) }
+    ensures sure { IfDone result ((S.faults source.new ≡ S.faults source.old) × (D.faults disk.new ≡ D.faults disk.old)) }
     ensures cause { let call = call_of S.nature S.slots S.faults D.nature D.files D.faults
-        (words_of (texts words.now)) (source.old ∷ []) (source.new ∷ []) disk.old disk.new in IsCause call result }
+        (command_of words.now) (source.old ∷ []) (source.new ∷ []) disk.old disk.new in IsCause call result }
     ensures exact { let call = call_of S.nature S.slots S.faults D.nature D.files D.faults
-        (words_of (texts words.now)) (source.old ∷ []) (source.new ∷ []) disk.old disk.new in IsExact call result }
+        (command_of words.now) (source.old ∷ []) (source.new ∷ []) disk.old disk.new in IsExact call result }
     ensures parts { let call = call_of S.nature S.slots S.faults D.nature D.files D.faults
-        (words_of (texts words.now)) (source.old ∷ []) (source.new ∷ []) disk.old disk.new in HasParts call result }
+        (command_of words.now) (source.old ∷ []) (source.new ∷ []) disk.old disk.new in HasParts call result }
 {
     let scan = match read_words(words) {
         Ok(scan) => scan,

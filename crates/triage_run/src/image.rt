@@ -1,5 +1,5 @@
 // The bytes of the image, read whole.
-ghost use Rattle.std.specs.Prelude.{◌≡◌, ◌≤◌, ◌<◌, ◌^◌, ℕ, length, IfOk, IfErr, IfSome, IsSomeAnd};
+ghost use Rattle.std.specs.Prelude.{◌≡◌, ◌≤◌, ◌<◌, ◌^◌, ℕ, length, IfOk, OnOk, IfErr, IfSome, IsSomeAnd};
 ghost use Rattle.host_source.specs.Source.{told_at};
 ghost use Rattle.triage_run.specs.Kept.{KeepsSource};
 ghost use Rattle.triage_run.specs.Image.{IsReadCause};
@@ -23,6 +23,7 @@ pub fn read_image<S: Source>(alloc: Global, source: &mut S, size: u64) -> Result
     ensures source { KeepsSource S.nature S.faults source.old source.new }
     ensures slots { S.slots source.new ≡ S.slots source.old }
     ensures image { IfOk result (λ image. IfSome (told_at (S.nature source.old) (S.slots source.old) 0) (λ bytes. image.items ≡ bytes)) }
+    ensures sure { OnOk result (S.faults source.new ≡ S.faults source.old) }
     ensures cause { IfErr result (IsReadCause size (S.faults source.old) (S.faults source.new)) }
 {
     let mut image = Vec::new(alloc);

@@ -4,7 +4,7 @@ ghost use Rattle.host_source.specs.Source.{IsDetached};
 ghost use Rattle.triage_run.specs.Call.{call_of, IsCause, IsExact, HasParts};
 ghost use Rattle.triage_run.specs.Kept.{KeepsSource, KeepsDisk, KeepsOthers};
 ghost use Rattle.triage_run.specs.Sources.{OnlyParts};
-ghost use Rattle.triage_run.specs.Status.{IfReadFault, IsAheadOf, IsBehind};
+ghost use Rattle.triage_run.specs.Status.{IfDone, IfReadFault, IsAheadOf, IsBehind};
 ghost use Rattle.triage_run.specs.Steps.{attach, mount};
 
 use crate::image::{ReadEnd, read_image};
@@ -38,6 +38,7 @@ pub fn scan_part<S: Source, D: Disk>(
     ensures mounted { IsBehind mount result → D.mounted disk.new ≡ true }
     ensures others { KeepsOthers (D.nature disk.old) (D.files disk.old) (D.files disk.new) }
     ensures unwritten { IfReadFault result (D.files disk.new ≡ D.files disk.old) }
+    ensures sure { IfDone result ((S.faults source.new ≡ S.faults source.old) × (D.faults disk.new ≡ D.faults disk.old)) }
     ensures cause { let call = call_of S.nature S.slots S.faults D.nature D.files D.faults
         (Ok (record { parts = part.now ∷ []; out = out.now })) (source.old ∷ []) (source.new ∷ []) disk.old disk.new in IsCause call result }
     ensures exact { let call = call_of S.nature S.slots S.faults D.nature D.files D.faults
