@@ -1,6 +1,6 @@
 -- No two files of a report have one number.
-use Rattle.std.proofs.Common.{◌≡◌, ◌≢◌, ◌<◌, ◌⊎◌, ℕ, Bool, true, false, cond, nat_eq, List, [], ◌∷◌, length, filter, get_or, refl, sym, ◌∙◌, inl, inr, arith, eq-eqb}
-use Rattle.std.specs.List.{AllByRecursion, IsDistinct}
+use Rattle.std.proofs.Common.{◌≡◌, ◌≢◌, ◌<◌, ◌⊎◌, ℕ, Bool, true, false, not, ◌&&◌, cond, nat_eq, List, [], ◌∷◌, length, filter, get_or, refl, sym, ◌∙◌, inl, inr, arith, eq-eqb}
+use Rattle.std.specs.List.{AllByRecursion, IsDistinct, list_all}
 use Rattle.std.proofs.Math.ListN.{get_or-map}
 use Rattle.std.proofs.lemmas.List.{length-map}
 use Rattle.std.proofs.lemmas.List.Recursion.{or_at}
@@ -9,6 +9,18 @@ use Rattle.byte_kit.specs.Classes.{is_one_of}
 use Rattle.report_publish.specs.declared.open_file.OpenFile.{OpenFile}
 use Rattle.report_publish.specs.declared.publish.TheConstants.{FILES_BUILT}
 use Rattle.report_publish.specs.OpenFile.{numbers}
+
+not_true : (b : Bool) → not b ≡ true → b ≡ false
+not_true true e = cc
+not_true false e = refl
+
+and_left : (a b : Bool) → (a && b) ≡ true → a ≡ true
+and_left true b e = refl
+and_left false b e = e
+
+and_right : (a b : Bool) → (a && b) ≡ true → b ≡ true
+and_right true b e = e
+and_right false b e = cc
 
 all_filter : (P : ℕ → Type 0) (p : ℕ → Bool) (xs : List ℕ) → AllByRecursion P xs → AllByRecursion P (filter p xs)
 all_filter P p [] all = all
@@ -26,9 +38,22 @@ distinct_filter p (x ∷ xs) apart =
       | false ↦ rest
     ]
 
-pub built_apart : IsDistinct nat_eq FILES_BUILT
+-- no number of the list comes again
+abbrev all_differ : List ℕ → Bool
+all_differ [] = true
+all_differ (x ∷ xs) = list_all (λ (y : ℕ). not (nat_eq x y)) xs && all_differ xs
+
+differ_at : (x : ℕ) (xs : List ℕ) → list_all (λ (y : ℕ). not (nat_eq x y)) xs ≡ true → AllByRecursion (λ y. nat_eq x y ≡ false) xs
+differ_at x [] all = tt
+differ_at x (y ∷ xs) all = (not_true (nat_eq x y) (and_left _ _ all), differ_at x xs (and_right _ _ all))
+
+distinct_where : (xs : List ℕ) → all_differ xs ≡ true → IsDistinct nat_eq xs
 unfolding IsDistinct
-built_apart = ((refl, tt), (tt, tt))
+distinct_where [] all = tt
+distinct_where (x ∷ xs) all = (differ_at x xs (and_left _ _ all), distinct_where xs (and_right _ _ all))
+
+pub built_apart : IsDistinct nat_eq FILES_BUILT
+built_apart = distinct_where FILES_BUILT refl
 
 number_at : (open_files : List OpenFile) (i : ℕ) (d : OpenFile) → get_or (numbers open_files) i d.number ≡ (get_or open_files i d).number
 number_at open_files i d = get_or-map (λ (f : OpenFile). f.number) open_files i d

@@ -1,7 +1,10 @@
 -- The files that are built: each has a place on a disk, and is open where it is written.
-use Rattle.std.proofs.Common.{◌≡◌, ◌∙◌, ◌<◌, ◌+◌, ◌++◌, take, filter, ap, sym, append-nil, ℕ, Bool, true, false, List, [], ◌∷◌, length, get_or, cond, lit<}
+use Rattle.std.proofs.Common.{◌≡◌, ◌∙◌, ◌<◌, ◌+◌, ◌++◌, take, filter, ap, sym, append-nil, ℕ, Bool, true, false, List, [], ◌∷◌, length, get_or, cond, nat_lt, refl}
 use Rattle.std.proofs.lemmas.List.{map-append}
-use Rattle.std.proofs.lemmas.List.Elements.{All-get_or, All-from_recursion, filter_more}
+use Rattle.std.specs.List.{list_all}
+use Rattle.std.proofs.lemmas.Bool.{ltb-true}
+use Rattle.std.proofs.lemmas.List.Elements.{filter_more}
+use Rattle.std.proofs.lemmas.List.Recursion.{and_at}
 use Rattle.feature_file.specs.Files.{is_written}
 use Rattle.feature_file.specs.FeatureFile.{header_of}
 use Rattle.report_publish.specs.declared.open_file.OpenFile.{OpenFile}
@@ -10,7 +13,9 @@ use Rattle.report_publish.specs.OpenFile.{numbers, IsFresh}
 
 -- a disk has each file that is built
 pub built_below : (i d : ℕ) → i < length FILES_BUILT → get_or FILES_BUILT i d < 64
-built_below i d in_i = All-get_or (λ n. n < 64) FILES_BUILT i d in_i (All-from_recursion (λ n. n < 64) FILES_BUILT (lit< tt, (lit< tt, tt)))
+built_below i d in_i =
+    ltb-true (get_or FILES_BUILT i d) 64
+    (and_at (list_all (λ (n : ℕ). nat_lt n 64)) (λ (n : ℕ). nat_lt n 64) refl (λ _ _. refl) FILES_BUILT i d in_i refl)
 
 -- the file at a place of those that are built is fresh
 pub fresh_file :

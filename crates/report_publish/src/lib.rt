@@ -1,11 +1,12 @@
-//! The report of a list of classed features: a feature file for each kind, each with its header and the
-//! lines of the features that stand in it.
+//! The report of a list of classed features: feature files, each with its header and the lines of the
+//! features that stand in it.
 //!
 //! The list is gone over once for all files: a line is made once, and gathered in a piece of each file
-//! that it stands in. A piece is written where the next line would make it too long.
+//! that it stands in. A piece is written where the next line would make it longer than 1 MiB.
 //!
-//! The promise: after `Ok` each file of the report has exactly its text for the list and is synced, and
-//! whatever `publish_items` answers, every file that isn't of the report is as it was.
+//! The promise: after `Ok` each file of the report has exactly its text for the list
+//! (`specs/Publish.antt`), and whatever [`publish_items`] answers, every other file is as it was. Each file
+//! is synced at the end too, which no contract of a disk can say.
 #![tactic(auto)]
 
 mod fault;

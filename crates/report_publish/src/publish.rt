@@ -15,14 +15,16 @@ use forensic_path::Classed;
 use host_disk::Disk;
 use std::alloc::Global;
 
-/// The numbers of the report files that are built.
+/// The numbers of the report files that are built, in the order in which they are cut and synced.
 pub const FILES_BUILT: [u32; 2] = [1, 2];
 
-/// Writes the report of the features for these scanners to a mounted disk: cuts each of its files, writes
-/// it and syncs it. A list that is gone over once gives the lines of all files, in its order.
+/// Writes the report of the features to a mounted disk: each file that is built and wanted by the
+/// scanners (`files_for`) is cut, gets its text for the items (`file_text`: the header, and the lines in
+/// the items' order), and is synced. `scanners` has a bit for each scanner that is on.
 ///
-/// It is refused with `Disk` where a call of the disk failed, and with `NoMemory` where room was wanting or
-/// a file would have 2^62 bytes or more. After a refusal the files of the report hold any bytes.
+/// `Disk` says that a call of the disk failed, and no call is made behind it; `NoMemory` says that room
+/// was wanting, or that a file would have 2^62 bytes or more. After a refusal the files of the report hold
+/// any bytes.
 pub fn publish_items<D: Disk>(
     alloc: Global,
     disk: &mut D,
