@@ -14,7 +14,7 @@ use forensic_path::Classed;
 use host_disk::Disk;
 use std::alloc::Global;
 
-/// Gathers the lines of all features in the files that they stand in, in the list's order.
+// Gathers the lines of all features in the files that they stand in, in the list's order.
 pub(crate) fn add_lines<D: Disk>(
     alloc: Global,
     disk: &mut D,

@@ -18,7 +18,7 @@ const PIECE_MOST: usize = 1 << 20;
 // The least length in bytes that a disk's file can't have.
 const FILE_END: u64 = 1 << 62;
 
-/// A file of the report: its first `written` bytes stand on the disk, and the next ones in the piece.
+// A file of the report: its first `written` bytes stand on the disk, and the next ones in the piece.
 #[derive(Drop)]
 pub(crate) struct OpenFile {
     pub(crate) number: u32,
@@ -27,7 +27,7 @@ pub(crate) struct OpenFile {
 }
 
 impl OpenFile {
-    /// A file with nothing on the disk, and its header in the piece.
+    // A file with nothing on the disk, and its header in the piece.
     pub(crate) fn make(alloc: Global, number: u32) -> Result<OpenFile, NoMemory>
         requires { IsSome (file_name_of number) }
         ensures number { IfOk result (λ f. f.number ≡ number) }
@@ -43,7 +43,7 @@ impl OpenFile {
         })
     }
 
-    /// Gathers the line of a feature, where the feature stands in this file.
+    // Gathers the line of a feature, where the feature stands in this file.
     pub(crate) fn add<D: Disk>(
         &mut self,
         disk: &mut D,
@@ -89,8 +89,8 @@ impl OpenFile {
         Ok(())
     }
 
-    /// Writes the piece behind what stands on the disk, and empties it. A piece by which the file would
-    /// have 2^62 bytes or more is not written, and wants memory.
+    // Writes the piece behind what stands on the disk, and empties it. A piece by which the file would
+    // have 2^62 bytes or more is not written, and wants memory.
     pub(crate) fn flush<D: Disk>(&mut self, disk: &mut D) -> Result<(), PublishFault>
         requires open { D.mounted disk.old ≡ true }
         requires placed { IsPlaced (D.nature disk.old).tells (D.files disk.old) self.old }
