@@ -21,8 +21,11 @@ trap 'rm -rf "$scratch"' EXIT
 passed=0
 failed=0
 
-URLS='# triage feature file, format 1\n# file: url.txt\n# columns: path, feature, context\n'
-DOMAINS='# triage feature file, format 1\n# file: domain.txt\n# columns: path, feature, context\n'
+# The report files that are built.
+FILES='url.txt domain.txt'
+
+# The header of a feature file.
+header() { printf '# triage feature file, format 1\n# file: %s\n# columns: path, feature, context\n' "$1"; }
 
 # Begins a case of this name, with two empty folders.
 begin() {
@@ -38,11 +41,14 @@ both() {
     printf "$2" > "$scratch/want/$1"
 }
 
-# Says that the report must stand in this folder, with these lines of URLs and of domains.
+# Says that the report must stand in this folder, with these lines of URLs and of domains, and with the
+# headers alone of all other files.
 report() {
+    local file
     mkdir -p "$scratch/want/$1"
-    printf "$URLS$2" > "$scratch/want/$1/url.txt"
-    printf "$DOMAINS$3" > "$scratch/want/$1/domain.txt"
+    for file in $FILES; do header "$file" > "$scratch/want/$1/$file"; done
+    printf "$2" >> "$scratch/want/$1/url.txt"
+    printf "$3" >> "$scratch/want/$1/domain.txt"
 }
 
 # Ends a case: runs the program with these words, which must end with this status, print nothing, and leave
@@ -95,9 +101,9 @@ begin 'a folder that stands, with other files in it and a longer report'
 both image 'ftp://a'
 report out '0\tftp://a\tftp://a\n' ''
 mkdir out
-printf "$URLS$SEE_URL$SEE_URL" > out/url.txt
-printf "$DOMAINS$SEE_DOMAIN" > out/domain.txt
-both out/ip.txt 'kept'
+{ header url.txt; printf "$SEE_URL$SEE_URL"; } > out/url.txt
+{ header domain.txt; printf "$SEE_DOMAIN"; } > out/domain.txt
+both out/notes.txt 'kept'
 both out/spool.bin 'kept too'
 ends 0 scan image out
 
@@ -203,7 +209,7 @@ linked() {
 }
 
 # A full disk refuses the bytes; a file of the process's name takes them and can't be synced.
-for file in url.txt domain.txt; do
+for file in $FILES; do
     [ -c /dev/full ] && linked "$file" /dev/full
     [ -w /proc/self/comm ] && linked "$file" /proc/self/comm
 done

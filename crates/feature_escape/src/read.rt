@@ -1,6 +1,6 @@
 // Texts are read by runs: what stands is appended as one slice, and what ends the run is judged where
 // it begins.
-ghost use Rattle.std.specs.Prelude.{◌≡◌, ◌≢◌, ℕ, ◌+◌, ◌*◌, ◌<◌, ◌≤◌, true, false, List, ◌∷◌, ◌++◌, ◌==◌, ◌&&◌, not, nat_eq, length, take, drop, position, IfOk, IfSome, IfNone, OnOk, OnErr};
+ghost use Rattle.std.specs.Prelude.{◌≡◌, ◌+◌, ◌*◌, ◌<◌, ◌≤◌, true, false, ◌∷◌, ◌++◌, ◌==◌, ◌&&◌, not, nat_eq, length, drop, position, IfOk, IfSome, IfNone};
 ghost use Rattle.std.specs.List.{starts_with};
 ghost use Rattle.byte_kit.specs.Classes.{hex_class};
 ghost use Rattle.feature_escape.specs.Escape.{AreBytes, BeginsNoEscape, IsNoEscape, begins_escape, digit_worth, escape_of, escaped, stands, unescape_lenient_of};

@@ -1,6 +1,6 @@
 // Escapes are written by runs: the bytes that stand are appended as one slice, and what ends the run
 // by its digits.
-ghost use Rattle.std.specs.Prelude.{◌≡◌, ◌+◌, ◌<◌, true, false, ◌++◌, not, take, vec_len, position, IfOk, OnOk, OnErr};
+ghost use Rattle.std.specs.Prelude.{◌≡◌, ◌+◌, ◌<◌, false, ◌++◌, not, take, vec_len, position, IfOk, OnOk, OnErr};
 ghost use Rattle.feature_escape.specs.Escape.{escape_of, escaped, hex_capital, stands};
 
 use byte_kit::{Bytes, NoMemory, is_printable};

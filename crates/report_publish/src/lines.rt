@@ -1,5 +1,5 @@
 // The lines of all features, gathered in the files that they stand in.
-ghost use Rattle.std.specs.Prelude.{◌≡◌, ℕ, ◌++◌, List, ◌∷◌, [], IsTrue, OnOk, nat_eq, true, false};
+ghost use Rattle.std.specs.Prelude.{◌≡◌, ℕ, [], IsTrue, OnOk, nat_eq, true, false};
 ghost use Rattle.std.specs.List.{All, IsDistinct};
 ghost use Rattle.byte_kit.specs.Classes.{is_one_of};
 ghost use Rattle.feature_file.specs.FeatureFile.{line_text};

@@ -1,5 +1,5 @@
 // A report file while it is written.
-ghost use Rattle.std.specs.Prelude.{◌≡◌, ◌≢◌, ℕ, ◌<◌, ◌++◌, List, [], ◌∷◌, IsTrue, IsSome, IfOk, OnOk, length, true};
+ghost use Rattle.std.specs.Prelude.{◌≡◌, ◌≢◌, ℕ, ◌<◌, ◌++◌, [], IsTrue, IsSome, IfOk, OnOk, length, true};
 ghost use Rattle.feature_file.specs.Files.{file_name_of};
 ghost use Rattle.feature_file.specs.FeatureFile.{header_of, line_text};
 ghost use Rattle.report_publish.specs.Faults.{HasPublishCause};

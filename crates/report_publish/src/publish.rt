@@ -1,5 +1,5 @@
 // The report of a list of features.
-ghost use Rattle.std.specs.Prelude.{◌≡◌, ◌<◌, ℕ, List, [], IsTrue, IfOk, OnOk, nat_eq, true, false};
+ghost use Rattle.std.specs.Prelude.{◌≡◌, ◌<◌, ℕ, [], IsTrue, IfOk, OnOk, nat_eq, true, false};
 ghost use Rattle.std.specs.List.{All, IsDistinct};
 ghost use Rattle.byte_kit.specs.Classes.{is_one_of};
 ghost use Rattle.report_publish.specs.Faults.{HasPublishCause};

@@ -114,7 +114,6 @@ fn each_file_has_the_lines_of_its_kind(rt: HostRuntime) -> Result<(), Fail> {
         (3, URLS, DOMAINS, 7),
         (1, URLS, "second", 4),
         (2, "first", DOMAINS, 4),
-        (1020, "first", "second", 1),
         (0, "first", "second", 1),
     ];
     for (scanners, urls, domains, calls) in cases {

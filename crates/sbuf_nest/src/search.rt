@@ -1,6 +1,6 @@
 // The search of a buffer for the marks of its places.
 ghost use Rattle.std.specs.Prelude.{◌≡◌, ◌-◌, ◌<◌, ◌≤◌, ◌++◌, ℕ, List, length, IfNone, IfSome, OnOk, OnErr};
-ghost use Rattle.sbuf_nest.specs.Around.{Around, seen, look_at};
+ghost use Rattle.sbuf_nest.specs.Around.{Around, seen};
 ghost use Rattle.sbuf_nest.specs.Marks.{marks_of, owned_marks, NoneFrom, AppendsFirst};
 ghost use Rattle.sbuf_nest.specs.declared.mark.Mark.{Mark};
 

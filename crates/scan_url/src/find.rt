@@ -7,7 +7,7 @@
 // It costs the vector search, which sees each owned byte about once, and the judging, which reads at
 // most `URL_MOST` bytes of a URL and as many of an authority. The worst image is `ftp://` over and over
 // again: each six bytes of it begin a URL of `URL_MOST` bytes.
-ghost use Rattle.std.specs.Prelude.{◌≡◌, ◌+◌, ◌<◌, ◌≤◌, ◌++◌, ℕ, codes, IfNone, IfSome, OnOk, OnErr};
+ghost use Rattle.std.specs.Prelude.{◌≡◌, ◌+◌, ◌<◌, ◌≤◌, ◌++◌, codes, IfNone, IfSome, OnOk, OnErr};
 ghost use Rattle.sbuf_nest.specs.Marks.{owned_marks, AppendsFirst};
 ghost use Rattle.scan_url.specs.Marks.{url_marks};
 ghost use Rattle.scan_url.specs.SchemeEnd.{EndsScheme, NoSchemeEnd};

@@ -1,5 +1,3 @@
-ghost use Rattle.std.specs.Prelude.{◌≤◌, length};
-
 use crate::{domain_len, find_urls, url_len};
 use forensic_path::Kind;
 use sbuf_nest::{Found, Look, Mark, Sbuf};

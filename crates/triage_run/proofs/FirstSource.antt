@@ -1,5 +1,5 @@
 -- From one source to the list whose first it is: what one source and its disk bear, all of them bear.
-use Rattle.std.proofs.Common.{◌≡◌, inl, inr, ◌⊎◌, ⊎_elim, ℕ, zero, suc, ◌+◌, ◌<◌, List, [], ◌∷◌, length, refl, subst, arith, Option, Some, None, Result, Ok, Err}
+use Rattle.std.proofs.Common.{◌≡◌, inl, inr, ⊎_elim, ℕ, suc, ◌<◌, List, [], ◌∷◌, length, refl, subst, arith, Option, Result, Ok, Err}
 use Rattle.std.specs.List.{All, AllByRecursion}
 use Rattle.std.specs.Prelude.{slice_index_or, slice_set}
 use Rattle.host_source.specs.Source.{SourceNature, Slot}

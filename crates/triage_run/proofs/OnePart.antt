@@ -1,5 +1,5 @@
 -- From one part to the words that name it alone.
-use Rattle.std.proofs.Common.{◌≡◌, ◌∙◌, refl, ℕ, List, [], ◌∷◌, length, map, sym, ap, arith, Result, Ok, Err}
+use Rattle.std.proofs.Common.{◌≡◌, ◌∙◌, refl, ℕ, List, [], ◌∷◌, length, map, sym, ap, arith, Result, Ok}
 use Rattle.std.specs.Prelude.{slice_index_or, String}
 use Rattle.std.specs.String.{string_bytes}
 use Rattle.triage_run.specs.declared.words.BadWord.{BadWord}

@@ -1,7 +1,5 @@
 -- Worked rows of whole report files, as laws that compute.
-use Rattle.std.specs.Prelude.{◌≡◌, ℕ, List, [], ◌∷◌, ◌++◌, codes, filter, Option, Some, None, refl}
-use Rattle.forensic_path.specs.declared.scanner.Scanner.TheVariants.{Url, Domain, Net, Exec, Unread, Find, Word, Base64, Hex, Utf16}
-use Rattle.forensic_path.specs.Scanners.{is_on}
+use Rattle.std.specs.Prelude.{◌≡◌, ℕ, List, [], ◌∷◌, ◌++◌, codes, Option, Some, None, refl}
 use Rattle.scan_set.specs.declared.plan.ScanPlan.{ScanPlan}
 use Rattle.scan_set.proofs.Shown.{shown}
 use Rattle.feature_escape.specs.Escape.{escape_of, unescape_lenient_of}
@@ -9,7 +7,6 @@ use Rattle.stop_lists.specs.Lists.{entries_of, class_under}
 use Rattle.feature_file.specs.Files.{report_files}
 use Rattle.feature_file.specs.FeatureFile.{header_of, line_of, file_text}
 use Rattle.count_histogram.specs.Histogram.{rows_of, row_line_of, histogram_text}
-use Rattle.triage_run.specs.declared.plan.TheConstants.{SCANNERS_BUILT}
 use Rattle.triage_run.specs.Case.{classed_of, report, case_of, no_match}
 
 -- every scanner but that of words, as a scan has them by default
@@ -23,10 +20,6 @@ file_under stop alert image number =
     report no_match (record { image = image; stop = stop; alert = alert; page = 16777216; plan = default_plan; readings = [] }) number
 
 -- ---- what is built
-
--- the scanners that are on in every scan
-scanners_built : filter (is_on SCANNERS_BUILT) (Url ∷ Domain ∷ Net ∷ Exec ∷ Unread ∷ Find ∷ Word ∷ Base64 ∷ Hex ∷ Utf16 ∷ []) ≡ Url ∷ Domain ∷ []
-scanners_built = refl
 
 -- what the program writes for an image
 unfoldable built_file : List ℕ → ℕ → Option (List ℕ)

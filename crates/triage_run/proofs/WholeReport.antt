@@ -1,5 +1,5 @@
 -- What a scan finds and writes is the report of its image: there are no lists.
-use Rattle.std.proofs.Common.{◌≡◌, ◌∙◌, ℕ, ◌+◌, ◌==◌, ◌&&◌, not, Bool, false, List, [], ◌∷◌, filter, length, map, flat_map, true, IsTrue, Option, Some, None, Result, Ok, Err, IfOk, OnOk, subst, ap, sym, refl, arith}
+use Rattle.std.proofs.Common.{◌≡◌, ◌∙◌, ℕ, ◌==◌, ◌&&◌, not, Bool, false, List, [], ◌∷◌, filter, length, map, true, IsTrue, Some, Result, Ok, Err, IfOk, OnOk, subst, ap, sym, refl}
 use Rattle.std.specs.List.{list_all, AllByRecursion}
 use Rattle.std.proofs.lemmas.Bool.{and_parts}
 use Rattle.forensic_path.specs.declared.feature.Class.TheVariants.{Plain}

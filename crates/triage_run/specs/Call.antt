@@ -1,6 +1,5 @@
 -- What a call saw and left, and which answers this bears.
-use Rattle.std.specs.Prelude.{◌≡◌, ℕ, ◌*◌, ◌<◌, ◌≤◌, Bool, List, length, Option, IsSomeAnd, MatchOption, Result, Ok, Err, IsOk, IsOkAnd, IfOk, IfErr}
-use Rattle.std.specs.List.{AllByRecursion}
+use Rattle.std.specs.Prelude.{◌≡◌, ℕ, ◌*◌, ◌<◌, ◌≤◌, Bool, List, length, Option, IsSomeAnd, MatchOption, Result, Err, IsOk, IsOkAnd, IfOk, IfErr}
 use Rattle.byte_kit.specs.Counts.{Rose}
 use Rattle.host_source.specs.Source.{SourceNature, Slot}
 use Rattle.host_disk.specs.Files.{Files}
@@ -13,7 +12,7 @@ use Rattle.triage_run.specs.declared.status.ReadPlace.TheVariants.{Image, Page}
 use Rattle.triage_run.specs.declared.status.Unbuilt.TheVariants.{Parts, Size}
 use Rattle.triage_run.specs.declared.words.BadWord.{BadWord}
 use Rattle.triage_run.specs.Case.{LeavesReport}
-use Rattle.triage_run.specs.Sources.{SourceRose, image_told, first_slots, OnlyParts, AreAttached}
+use Rattle.triage_run.specs.Sources.{SourceRose, image_told, first_slots, AreAttached}
 use Rattle.triage_run.specs.Steps.{attach}
 use Rattle.triage_run.specs.Status.{IsOrEarlier, IsBehind, IsDoneOrNoMemory}
 use Rattle.triage_run.specs.Words.{ScanWords}

@@ -1,6 +1,6 @@
 -- Lists of sources before a call and after it, and the image that they hold.
-use Rattle.std.specs.Prelude.{◌≡◌, ◌⊎◌, ℕ, suc, ◌≤◌, List, [], ◌∷◌, length, Option, Some, None, IsSomeAnd, IfOk, Result, Ok, Err}
-use Rattle.std.specs.List.{All, AllByRecursion, AllPass}
+use Rattle.std.specs.Prelude.{◌≡◌, ◌⊎◌, ℕ, suc, ◌≤◌, List, [], ◌∷◌, length, Option, None, IsSomeAnd, IfOk, Result, Ok, Err}
+use Rattle.std.specs.List.{All, AllPass}
 use Rattle.byte_kit.specs.Counts.{Rose}
 use Rattle.host_source.specs.Source.{SourceNature, Slot, IsDetached, told}
 use Rattle.triage_run.specs.declared.words.BadWord.{BadWord}

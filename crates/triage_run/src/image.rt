@@ -1,5 +1,5 @@
 // The bytes of the image, read whole.
-ghost use Rattle.std.specs.Prelude.{◌≡◌, ◌≤◌, ◌<◌, ◌^◌, ℕ, length, IfOk, OnOk, IfErr, IfSome, IsSomeAnd};
+ghost use Rattle.std.specs.Prelude.{◌≡◌, ◌<◌, length, IfOk, OnOk, IfErr, IfSome, IsSomeAnd};
 ghost use Rattle.host_source.specs.Source.{told_at};
 ghost use Rattle.triage_run.specs.Kept.{KeepsSource};
 ghost use Rattle.triage_run.specs.Image.{IsReadCause};

@@ -1,5 +1,5 @@
 // The report of an image in memory: what is found in it, its classes, and its files.
-ghost use Rattle.std.specs.Prelude.{◌≡◌, ◌<◌, ◌^◌, [], length, map, true, Some, IfOk, IsTrue, OnOk};
+ghost use Rattle.std.specs.Prelude.{◌≡◌, ◌<◌, ◌^◌, [], length, map, true, Some, IfOk, OnOk};
 ghost use Rattle.scan_set.specs.Here.{features_of};
 ghost use Rattle.stop_lists.specs.Lists.{classed_by};
 ghost use Rattle.report_publish.specs.Faults.{HasPublishCause};
@@ -16,11 +16,7 @@ use scan_set::{ScanPlan, Tools, scan_owned};
 use std::alloc::Global;
 
 /// Writes the report of an image to a mounted disk.
-pub fn write_report<D: Disk>(
-    alloc: Global,
-    image: &[u8],
-    disk: &mut D,
-) -> Result<(), PublishFault>
+pub fn write_report<D: Disk>(alloc: Global, image: &[u8], disk: &mut D) -> Result<(), PublishFault>
     requires open { D.mounted disk.old ≡ true }
     requires small { length image.now < 2 ^ 63 }
     ensures same { D.nature disk.new ≡ D.nature disk.old }
@@ -53,8 +49,10 @@ fn classed(alloc: Global, features: Vec<Feature>) -> Result<Vec<Classed>, NoMemo
     ensures { IfOk result (λ items. items.items ≡ map (λ item. record { class = Class.Plain; item = item }) features.items) }
 {
     let class = Class::Plain;
-    Ok(features
-        .into_iter()
-        .map(|item| Classed { class, item })
-        .collect(alloc)?)
+    Ok(
+        features
+            .into_iter()
+            .map(|item| Classed { class, item })
+            .collect(alloc)?,
+    )
 }

@@ -7,6 +7,7 @@ use crate::{Outcome, PLACES_MOST, ReadPlace, Status, Unbuilt, Why, triage};
 use byte_kit::NoMemory;
 use host_disk::{DiskCall, MemDisk, SureDisk};
 use host_source::{MemSource, SourceCall};
+use report_publish::FILES_BUILT;
 use std::alloc::Global;
 use std::test::Fail;
 
@@ -160,7 +161,10 @@ fn an_image_may_be_full_of_urls(rt: HostRuntime) -> Result<(), Fail> {
     let outcome = scan(alloc, image.as_slice(), &[], &[])?;
     assert_eq!(rt; outcome.status, Status::Done);
     let urls = outcome.disk.file(1);
-    assert_eq!(rt; urls.iter().filter(|byte| **byte == b'\n').count(), 3 + 131_072);
+    assert_eq!(rt;
+        urls.iter().filter(|byte| **byte == b'\n').count(),
+        3 + 131_072
+    );
     assert_eq!(rt; urls.len(), 7_201_178);
     assert_eq!(rt; outcome.disk.file(2), DOMAIN_HEADER.as_bytes());
     Ok(())
@@ -228,60 +232,74 @@ fn an_image_may_have_1048576_bytes_and_no_more(rt: HostRuntime) -> Result<(), Fa
 
 const ATTACH: SourceCall = SourceCall::Attach { slot: 0 };
 
+// The read of the whole of `ftp://a`.
 const READ: SourceCall = SourceCall::Read {
     slot: 0,
     at: 0,
     bytes: 7,
 };
 
-// The calls of the disk in a scan of `ftp://a`: both files are cut, then written, then synced.
-const WRITES: [DiskCall; 7] = [
-    DiskCall::Mount,
-    DiskCall::Cut { file: 1, to: 0 },
-    DiskCall::Cut { file: 2, to: 0 },
-    DiskCall::Write {
-        file: 1,
-        at: 0,
-        bytes: 100,
-    },
-    DiskCall::Write {
-        file: 2,
-        at: 0,
-        bytes: 85,
-    },
-    DiskCall::Sync { file: 1 },
-    DiskCall::Sync { file: 2 },
-];
-
-// A fault ends the scan at its call: no call is made again, and none behind it.
-#[test]
-fn a_scan_makes_these_calls_and_no_others(rt: HostRuntime) -> Result<(), Fail> {
-    let alloc = rt.alloc();
-    let image = ReadPlace::Image;
-    let page = ReadPlace::Page(0);
-    let rows: [(&[u64], &[u64], Status, usize, usize); 11] = [
-        (&[], &[], Status::Done, 2, 7),
-        (&[0], &[], Status::ReadFault { place: image }, 1, 0),
-        (&[1], &[], Status::ReadFault { place: page }, 2, 1),
-        (&[], &[0], Status::DiskFault, 1, 1),
-        (&[], &[1], Status::DiskFault, 2, 2),
-        (&[], &[2], Status::DiskFault, 2, 3),
-        (&[], &[3], Status::DiskFault, 2, 4),
-        (&[], &[4], Status::DiskFault, 2, 5),
-        (&[], &[5], Status::DiskFault, 2, 6),
-        (&[], &[6], Status::DiskFault, 2, 7),
-        (&[2], &[7], Status::Done, 2, 7),
-    ];
-    for (source_fails, disk_fails, status, reads, writes) in rows {
-        let outcome = scan(alloc, b"ftp://a", source_fails, disk_fails)?;
-        assert_eq!(rt; outcome.status, status);
-        let reads = [ATTACH, READ].split_at(reads.min(2)).0;
-        for source in outcome.sources.iter() {
-            assert_eq!(rt; source.calls(), reads, "at {status:?}");
-        }
-        let writes = WRITES.split_at(writes.min(7)).0;
-        assert_eq!(rt; outcome.disk.calls(), writes, "at {status:?}");
+// The calls of a disk to which a scan has written short files: all of the report are cut, then
+// written, then synced.
+fn calls_of_a_scan(alloc: Global, disk: &MemDisk) -> Result<Vec<DiskCall>, NoMemory> {
+    let mut calls = Vec::new(alloc);
+    calls.push(DiskCall::Mount)?;
+    for file in FILES_BUILT {
+        calls.push(DiskCall::Cut { file, to: 0 })?;
     }
+    for file in FILES_BUILT {
+        if file < 64 {
+            let bytes = disk.file(file).len() as u64;
+            calls.push(DiskCall::Write { file, at: 0, bytes })?;
+        }
+    }
+    for file in FILES_BUILT {
+        calls.push(DiskCall::Sync { file })?;
+    }
+    Ok(calls)
+}
+
+// Every source made just these calls.
+fn made(sources: &[MemSource], calls: &[SourceCall]) -> bool {
+    sources.iter().all(|source| source.calls() == calls)
+}
+
+#[test]
+fn a_scan_makes_each_call_once(rt: HostRuntime) -> Result<(), Fail> {
+    let alloc = rt.alloc();
+    let whole = scan(alloc, b"ftp://a", &[2], &[])?;
+    assert_eq!(rt; whole.status, Status::Done);
+    assert!(rt; made(whole.sources.as_slice(), &[ATTACH, READ]));
+    let calls = calls_of_a_scan(alloc, &whole.disk)?;
+    assert_eq!(rt; whole.disk.calls(), calls.as_slice());
+
+    // A disk that fails at a call is asked for nothing else, and nothing is read again.
+    for (at, _) in calls.iter().enumerate() {
+        let failed = scan(alloc, b"ftp://a", &[], &[at as u64])?;
+        assert_eq!(rt; failed.status, Status::DiskFault, "at {at}");
+        assert_eq!(rt;
+            failed.disk.calls(),
+            calls.as_slice().split_at(at + 1).0,
+            "at {at}"
+        );
+    }
+    Ok(())
+}
+
+#[test]
+fn a_fault_of_the_source_ends_the_scan(rt: HostRuntime) -> Result<(), Fail> {
+    let alloc = rt.alloc();
+    let failed = scan(alloc, b"ftp://a", &[0], &[])?;
+    let place = ReadPlace::Image;
+    assert_eq!(rt; failed.status, Status::ReadFault { place });
+    assert!(rt; made(failed.sources.as_slice(), &[ATTACH]));
+    assert_eq!(rt; failed.disk.calls(), [].as_slice());
+
+    let failed = scan(alloc, b"ftp://a", &[1], &[])?;
+    let place = ReadPlace::Page(0);
+    assert_eq!(rt; failed.status, Status::ReadFault { place });
+    assert!(rt; made(failed.sources.as_slice(), &[ATTACH, READ]));
+    assert_eq!(rt; failed.disk.calls(), [DiskCall::Mount].as_slice());
     Ok(())
 }
 
@@ -289,9 +307,7 @@ fn a_scan_makes_these_calls_and_no_others(rt: HostRuntime) -> Result<(), Fail> {
 fn an_empty_image_is_not_read(rt: HostRuntime) -> Result<(), Fail> {
     let outcome = scan(rt.alloc(), b"", &[], &[])?;
     assert_eq!(rt; outcome.status, Status::Done);
-    for source in outcome.sources.iter() {
-        assert_eq!(rt; source.calls(), [ATTACH].as_slice());
-    }
+    assert!(rt; made(outcome.sources.as_slice(), &[ATTACH]));
     Ok(())
 }
 
@@ -315,12 +331,7 @@ fn call_with_two(alloc: Global, words: &[&str]) -> Result<Outcome<MemSource, Sur
     let mut sources = Vec::new(alloc);
     sources.push(MemSource::make(alloc))?;
     sources.push(MemSource::make(alloc))?;
-    Ok(triage(
-        alloc,
-        words.as_slice(),
-        sources,
-        SureDisk::make(alloc),
-    ))
+    Ok(triage(alloc, words.as_slice(), sources, SureDisk::make(alloc)))
 }
 
 #[test]

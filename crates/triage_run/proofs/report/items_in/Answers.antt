@@ -1,4 +1,4 @@
-use Rattle.std.proofs.Common.{◌≡◌, ◌-◌, length, sym, ap, ◌∙◌, arith}
+use Rattle.std.proofs.Common.{◌≡◌, ◌-◌, length, arith}
 use Rattle.triage_run.proofs.WholeReport.{all_classed}
 use Rattle.triage_run.proofs.report.items_in.Goals as goal
 
