@@ -1,5 +1,5 @@
 use crate::{domain_len, find_urls, url_len};
-use forensic_path::Kind;
+use forensic_path::Kind::{self, Domain, Url};
 use sbuf_nest::{Found, Look, Mark, Sbuf};
 use std::test::Fail;
 
@@ -120,37 +120,25 @@ fn a_search_finds_each_url_and_each_domain(rt: HostRuntime) -> Result<(), Fail> 
     let rows = [
         (
             "see http://example.com/a b",
-            [(Kind::Url, 4, 20), (Kind::Domain, 11, 11)].as_slice(),
+            [(Url, 4, 20), (Domain, 11, 11)].as_slice(),
         ),
         (
             "http://a.b/?u=http://c.d/",
-            &[
-                (Kind::Url, 0, 25),
-                (Kind::Domain, 7, 3),
-                (Kind::Url, 14, 11),
-                (Kind::Domain, 21, 3),
-            ],
+            &[(Url, 0, 25), (Domain, 7, 3), (Url, 14, 11), (Domain, 21, 3)],
         ),
         (
             "http://http://a.b/",
-            &[
-                (Kind::Url, 0, 18),
-                (Kind::Url, 7, 11),
-                (Kind::Domain, 14, 3),
-            ],
+            &[(Url, 0, 18), (Url, 7, 11), (Domain, 14, 3)],
         ),
         (
             "xhttps://a.b ftp://c",
-            &[(Kind::Url, 1, 11), (Kind::Domain, 9, 3), (Kind::Url, 13, 7)],
+            &[(Url, 1, 11), (Domain, 9, 3), (Url, 13, 7)],
         ),
-        ("http://://a.b://c.d", &[(Kind::Url, 0, 19)]),
-        ("http://jo.doe@h.org/", &[(Kind::Url, 0, 20)]),
-        (
-            "http://a.b...:80/",
-            &[(Kind::Url, 0, 17), (Kind::Domain, 7, 3)],
-        ),
-        ("http://.a.b/", &[(Kind::Url, 0, 12)]),
-        ("http://localhost/", &[(Kind::Url, 0, 17)]),
+        ("http://://a.b://c.d", &[(Url, 0, 19)]),
+        ("http://jo.doe@h.org/", &[(Url, 0, 20)]),
+        ("http://a.b...:80/", &[(Url, 0, 17), (Domain, 7, 3)]),
+        ("http://.a.b/", &[(Url, 0, 12)]),
+        ("http://localhost/", &[(Url, 0, 17)]),
         ("x ftp://", &[]),
         ("s://a.b tp://a.b ://a.b", &[]),
         ("", &[]),
@@ -167,29 +155,17 @@ fn a_search_finds_each_url_and_each_domain(rt: HostRuntime) -> Result<(), Fail> 
 fn a_search_appends_the_wanted_marks_of_the_owned_places(rt: HostRuntime) -> Result<(), Fail> {
     let text = b"http://a.b/ https://c.d";
     let rows = [
-        (7, 12, true, true, [(Kind::Domain, 7, 3)].as_slice()),
-        (0, 7, true, true, &[(Kind::Url, 0, 11)]),
-        (0, 1, true, true, &[(Kind::Url, 0, 11)]),
+        (7, 12, true, true, [(Domain, 7, 3)].as_slice()),
+        (0, 7, true, true, &[(Url, 0, 11)]),
+        (0, 1, true, true, &[(Url, 0, 11)]),
         (1, 7, true, true, &[]),
         (8, 12, true, true, &[]),
-        (8, 13, true, true, &[(Kind::Url, 12, 11)]),
-        (13, 21, true, true, &[(Kind::Domain, 20, 3)]),
+        (8, 13, true, true, &[(Url, 12, 11)]),
+        (13, 21, true, true, &[(Domain, 20, 3)]),
         (13, 20, true, true, &[]),
         (7, 7, true, true, &[]),
-        (
-            0,
-            23,
-            true,
-            false,
-            &[(Kind::Url, 0, 11), (Kind::Url, 12, 11)],
-        ),
-        (
-            0,
-            23,
-            false,
-            true,
-            &[(Kind::Domain, 7, 3), (Kind::Domain, 20, 3)],
-        ),
+        (0, 23, true, false, &[(Url, 0, 11), (Url, 12, 11)]),
+        (0, 23, false, true, &[(Domain, 7, 3), (Domain, 20, 3)]),
         (0, 23, false, false, &[]),
     ];
     for (from, to, want_url, want_domain, want) in rows {
@@ -205,7 +181,7 @@ fn a_search_appends_the_wanted_marks_of_the_owned_places(rt: HostRuntime) -> Res
     find_urls(&sb, false, true, &mut found)?;
     find_urls(&sb, true, false, &mut found)?;
     assert!(rt;
-        are(found.marks(), &[(Kind::Domain, 6, 3), (Kind::Url, 0, 9)]),
+        are(found.marks(), &[(Domain, 6, 3), (Url, 0, 9)]),
         "appended"
     );
     Ok(())
