@@ -124,6 +124,20 @@ cp image ../want/image
 report out '' ''
 ends 0 scan image out
 
+# 20,000 URLs make a report of some 1.1 MB, which is written in pieces.
+begin 'a report of more than one piece'
+awk 'BEGIN { for (i = 0; i < 20000; i++) printf "ftp://a " }' > image
+cp image ../want/image
+report out '' ''
+awk 'BEGIN {
+    for (i = 0; i < 20000; i++) {
+        before = i == 0 ? "" : i == 1 ? "ftp://a " : "ftp://a ftp://a "
+        after = i == 19999 ? " " : i == 19998 ? " ftp://a " : " ftp://a ftp://a"
+        print 8 * i "\tftp://a\t" before "ftp://a" after
+    }
+}' >> ../want/out/url.txt
+ends 0 scan image out
+
 # ---- words
 
 begin 'no words'
