@@ -2,63 +2,11 @@ ghost use Rattle.std.specs.Prelude.{◌≡◌, IsTrue, None};
 
 use crate::file_source::{FileSource, read_part};
 use crate::folder_disk::FolderDisk;
-use crate::scan;
 use host_disk::{Disk, DiskFault};
 use host_source::{Source, SourceFault};
 use std::fs::File;
 use std::test::Fail;
 use std::{fs, io};
-
-// Makes the call of the program with these words, and gives its exit status.
-fn status_of(rt: &HostRuntime, words: &[&str]) -> io::Result<u8> {
-    let mut texts = Vec::new(rt.alloc());
-    for word in words {
-        texts.push(String::from_str(rt.alloc(), word)?)?;
-    }
-    if texts.len() > 100 {
-        return Ok(0);
-    }
-    Ok(scan(rt, texts.as_slice()))
-}
-
-#[test]
-fn a_real_file_is_scanned_into_a_real_folder(rt: HostRuntime) -> Result<(), Fail> {
-    fs::write(&rt, "image", b"see http://example.com/a b".as_slice())?;
-    assert_eq!(rt; status_of(&rt, &["scan", "image", "new/out"])?, 0);
-    let report = fs::read_to_string(&rt, "new/out/url.txt")?;
-    assert_eq!(rt;
-        report.as_str(),
-        "# triage feature file, format 1\n# file: url.txt\n# columns: path, feature, context\n4\thttp://example.com/a\tsee http://example.com/a b\n"
-    );
-    let report = fs::read_to_string(&rt, "new/out/domain.txt")?;
-    assert_eq!(rt;
-        report.as_str(),
-        "# triage feature file, format 1\n# file: domain.txt\n# columns: path, feature, context\n11\texample.com\tsee http://example.com/a b\n"
-    );
-
-    // A shorter report replaces a longer one.
-    fs::write(&rt, "image", b"".as_slice())?;
-    assert_eq!(rt; status_of(&rt, &["scan", "image", "new/out"])?, 0);
-    let report = fs::read_to_string(&rt, "new/out/url.txt")?;
-    assert_eq!(rt;
-        report.as_str(),
-        "# triage feature file, format 1\n# file: url.txt\n# columns: path, feature, context\n"
-    );
-    Ok(())
-}
-
-#[test]
-fn what_cannot_be_read_or_written_ends_with_its_status(rt: HostRuntime) -> Result<(), Fail> {
-    fs::write(&rt, "image", b"ftp://a".as_slice())?;
-    fs::create_dir_all(&rt, "folder")?;
-    assert_eq!(rt; status_of(&rt, &["scan", "missing", "unmade"])?, 4);
-    assert_eq!(rt; status_of(&rt, &["scan", "folder", "unmade"])?, 4);
-    assert_eq!(rt; status_of(&rt, &["scan", "image", "image/out"])?, 8);
-    assert_eq!(rt; status_of(&rt, &["scan", "image", ""])?, 8);
-    assert_eq!(rt; status_of(&rt, &["scan", "image"])?, 2);
-    assert!(rt; !fs::exists(&rt, "unmade")?);
-    Ok(())
-}
 
 #[test]
 fn a_read_past_the_end_of_a_file_fails(rt: HostRuntime) -> Result<(), Fail> {

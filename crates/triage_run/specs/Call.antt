@@ -1,5 +1,5 @@
 -- What a call saw and left, and which answers this bears.
-use Rattle.std.specs.Prelude.{◌≡◌, ℕ, ◌*◌, ◌<◌, ◌≤◌, Bool, List, length, Option, IsSomeAnd, MatchOption, Result, Err, IsOk, IsOkAnd, IfOk, IfErr}
+use Rattle.std.specs.Prelude.{◌≡◌, ℕ, ◌*◌, ◌<◌, ◌≤◌, Bool, List, [], ◌∷◌, length, Option, IsSomeAnd, MatchOption, Result, Err, IsOk, IsOkAnd, IfOk, IfErr}
 use Rattle.byte_kit.specs.Counts.{Rose}
 use Rattle.host_source.specs.Source.{SourceNature, Slot}
 use Rattle.host_disk.specs.Files.{Files}
@@ -40,6 +40,12 @@ call_of nature slots faults disk_nature files disk_faults command sources left d
   tells = (disk_nature disk).tells;
   files = files disk_left;
 }
+
+-- the call of a command over one source
+abbrev pub call_over : {S D : Type 0} → (S → SourceNature) → (S → ℕ → Option Slot) → (S → ℕ) → (D → DiskNature) → (D → Files) → (D → ℕ)
+    → Result ScanWords BadWord → S → S → D → D → Call
+call_over nature slots faults disk_nature files disk_faults command source left disk disk_left =
+    call_of nature slots faults disk_nature files disk_faults command (source ∷ []) (left ∷ []) disk disk_left
 
 -- ---- the words and the image of a call
 

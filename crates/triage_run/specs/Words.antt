@@ -11,6 +11,10 @@ pub record ScanWords : Type 0 where
   pub parts : List (List ℕ)
   pub out : List ℕ
 
+-- the command of a scan of one part
+abbrev pub one_part : List ℕ → List ℕ → Result ScanWords BadWord
+one_part part out = Ok (record { parts = part ∷ []; out = out })
+
 -- the words as bytes
 abbrev pub texts : {A : Type 0} → List (String A) → List (List ℕ)
 texts words = map string_bytes words

@@ -1,7 +1,7 @@
 // The call that the program makes.
-ghost use Rattle.std.specs.Prelude.{◌≡◌, ◌<◌, ◌≤◌, ◌^◌, ◌∷◌, [], true, false, IsTrue, length, vec_len, IfOk};
+ghost use Rattle.std.specs.Prelude.{◌≡◌, ◌<◌, ◌≤◌, ◌^◌, true, false, IsTrue, length, vec_len, IfOk};
 ghost use Rattle.std.specs.List.{All, AllByRecursion};
-ghost use Rattle.triage_run.specs.Call.{call_of, Answers, IsCause, IsExact, HasParts};
+ghost use Rattle.triage_run.specs.Call.{call_of, call_over, Answers, IsCause, IsExact, HasParts};
 ghost use Rattle.triage_run.specs.Kept.{KeepsSource, KeepsDisk, KeepsOthers};
 ghost use Rattle.triage_run.specs.Sources.{TellAlike, IsReady, Pairwise, OnlyParts};
 ghost use Rattle.triage_run.specs.Status.{IfDone, IfReadFault, IsAheadOf, IsBehind};
@@ -92,12 +92,9 @@ fn scan_words<S: Source, D: Disk>(
     ensures others { KeepsOthers (D.nature disk.old) (D.files disk.old) (D.files disk.new) }
     ensures unwritten { IfReadFault result (D.files disk.new ≡ D.files disk.old) }
     ensures sure { IfDone result ((S.faults source.new ≡ S.faults source.old) × (D.faults disk.new ≡ D.faults disk.old)) }
-    ensures cause { let call = call_of S.nature S.slots S.faults D.nature D.files D.faults
-        (command_of words.now) (source.old ∷ []) (source.new ∷ []) disk.old disk.new in IsCause call result }
-    ensures exact { let call = call_of S.nature S.slots S.faults D.nature D.files D.faults
-        (command_of words.now) (source.old ∷ []) (source.new ∷ []) disk.old disk.new in IsExact call result }
-    ensures parts { let call = call_of S.nature S.slots S.faults D.nature D.files D.faults
-        (command_of words.now) (source.old ∷ []) (source.new ∷ []) disk.old disk.new in HasParts call result }
+    ensures cause { IsCause (call_over S.nature S.slots S.faults D.nature D.files D.faults (command_of words.now) source.old source.new disk.old disk.new) result }
+    ensures exact { IsExact (call_over S.nature S.slots S.faults D.nature D.files D.faults (command_of words.now) source.old source.new disk.old disk.new) result }
+    ensures parts { HasParts (call_over S.nature S.slots S.faults D.nature D.files D.faults (command_of words.now) source.old source.new disk.old disk.new) result }
 {
     let scan = match read_words(words) {
         Ok(scan) => scan,

@@ -1,11 +1,12 @@
 // The scan of one part.
-ghost use Rattle.std.specs.Prelude.{◌≡◌, ◌∷◌, [], Ok, IsTrue, true, false};
+ghost use Rattle.std.specs.Prelude.{◌≡◌, IsTrue, true, false};
 ghost use Rattle.host_source.specs.Source.{IsDetached};
-ghost use Rattle.triage_run.specs.Call.{call_of, IsCause, IsExact, HasParts};
+ghost use Rattle.triage_run.specs.Call.{call_over, IsCause, IsExact, HasParts};
 ghost use Rattle.triage_run.specs.Kept.{KeepsSource, KeepsDisk, KeepsOthers};
 ghost use Rattle.triage_run.specs.Sources.{OnlyParts};
 ghost use Rattle.triage_run.specs.Status.{IfDone, IfReadFault, IsAheadOf, IsBehind};
-ghost use Rattle.triage_run.specs.Steps.{attach, mount};
+ghost use Rattle.triage_run.specs.Steps.{mount};
+ghost use Rattle.triage_run.specs.Words.{one_part};
 
 use crate::image::{ReadEnd, read_image};
 use crate::report::write_report;
@@ -34,17 +35,14 @@ pub fn scan_part<S: Source, D: Disk>(
     ensures source { KeepsSource S.nature S.faults source.old source.new }
     ensures disk { KeepsDisk D.nature D.faults disk.old disk.new }
     ensures untouched { IsAheadOf mount result → disk.new ≡ disk.old }
-    ensures slots { OnlyParts (Ok (record { parts = part.now ∷ []; out = out.now })) (S.slots source.new) }
+    ensures slots { OnlyParts (one_part part.now out.now) (S.slots source.new) }
     ensures mounted { IsBehind mount result → D.mounted disk.new ≡ true }
     ensures others { KeepsOthers (D.nature disk.old) (D.files disk.old) (D.files disk.new) }
     ensures unwritten { IfReadFault result (D.files disk.new ≡ D.files disk.old) }
     ensures sure { IfDone result ((S.faults source.new ≡ S.faults source.old) × (D.faults disk.new ≡ D.faults disk.old)) }
-    ensures cause { let call = call_of S.nature S.slots S.faults D.nature D.files D.faults
-        (Ok (record { parts = part.now ∷ []; out = out.now })) (source.old ∷ []) (source.new ∷ []) disk.old disk.new in IsCause call result }
-    ensures exact { let call = call_of S.nature S.slots S.faults D.nature D.files D.faults
-        (Ok (record { parts = part.now ∷ []; out = out.now })) (source.old ∷ []) (source.new ∷ []) disk.old disk.new in IsExact call result }
-    ensures parts { let call = call_of S.nature S.slots S.faults D.nature D.files D.faults
-        (Ok (record { parts = part.now ∷ []; out = out.now })) (source.old ∷ []) (source.new ∷ []) disk.old disk.new in HasParts call result }
+    ensures cause { IsCause (call_over S.nature S.slots S.faults D.nature D.files D.faults (one_part part.now out.now) source.old source.new disk.old disk.new) result }
+    ensures exact { IsExact (call_over S.nature S.slots S.faults D.nature D.files D.faults (one_part part.now out.now) source.old source.new disk.old disk.new) result }
+    ensures parts { HasParts (call_over S.nature S.slots S.faults D.nature D.files D.faults (one_part part.now out.now) source.old source.new disk.old disk.new) result }
 {
     let Ok(size) = source.attach(0, part) else {
         let place = ReadPlace::Image;

@@ -199,16 +199,13 @@ fn words_are_judged_from_left_to_right(rt: HostRuntime) -> Result<(), Fail> {
     assert_eq!(rt; outcome.status, Status::NotYet { what });
     assert_eq!(rt; outcome.status.number(), 15);
     assert_eq!(rt; outcome.disk.calls(), [].as_slice());
-    Ok(())
-}
 
-#[test]
-fn a_folder_may_begin_with_a_dash(rt: HostRuntime) -> Result<(), Fail> {
-    let alloc = rt.alloc();
+    // A folder may begin with a dash.
     let mut source = MemSource::make(alloc);
     source.add("i", b"ftp://a")?;
     let outcome = call(alloc, &["scan", "i", "-x"], source, MemDisk::make(alloc))?;
     assert_eq!(rt; outcome.status, Status::Done);
+    assert_eq!(rt; Status::NoMemory.number(), 14);
     Ok(())
 }
 
@@ -269,6 +266,7 @@ fn a_scan_makes_each_call_once(rt: HostRuntime) -> Result<(), Fail> {
     let alloc = rt.alloc();
     let whole = scan(alloc, b"ftp://a", &[2], &[])?;
     assert_eq!(rt; whole.status, Status::Done);
+    assert_eq!(rt; whole.status.number(), 0);
     assert!(rt; made(whole.sources.as_slice(), &[ATTACH, READ]));
     let calls = calls_of_a_scan(alloc, &whole.disk)?;
     assert_eq!(rt; whole.disk.calls(), calls.as_slice());
@@ -277,12 +275,17 @@ fn a_scan_makes_each_call_once(rt: HostRuntime) -> Result<(), Fail> {
     for (at, _) in calls.iter().enumerate() {
         let failed = scan(alloc, b"ftp://a", &[], &[at as u64])?;
         assert_eq!(rt; failed.status, Status::DiskFault, "at {at}");
+        assert_eq!(rt; failed.status.number(), 8);
         assert_eq!(rt;
             failed.disk.calls(),
             calls.as_slice().split_at(at + 1).0,
             "at {at}"
         );
     }
+    // An empty image is not read.
+    let empty = scan(alloc, b"", &[], &[])?;
+    assert_eq!(rt; empty.status, Status::Done);
+    assert!(rt; made(empty.sources.as_slice(), &[ATTACH]));
     Ok(())
 }
 
@@ -292,6 +295,7 @@ fn a_fault_of_the_source_ends_the_scan(rt: HostRuntime) -> Result<(), Fail> {
     let failed = scan(alloc, b"ftp://a", &[0], &[])?;
     let place = ReadPlace::Image;
     assert_eq!(rt; failed.status, Status::ReadFault { place });
+    assert_eq!(rt; failed.status.number(), 4);
     assert!(rt; made(failed.sources.as_slice(), &[ATTACH]));
     assert_eq!(rt; failed.disk.calls(), [].as_slice());
 
@@ -301,28 +305,6 @@ fn a_fault_of_the_source_ends_the_scan(rt: HostRuntime) -> Result<(), Fail> {
     assert!(rt; made(failed.sources.as_slice(), &[ATTACH, READ]));
     assert_eq!(rt; failed.disk.calls(), [DiskCall::Mount].as_slice());
     Ok(())
-}
-
-#[test]
-fn an_empty_image_is_not_read(rt: HostRuntime) -> Result<(), Fail> {
-    let outcome = scan(rt.alloc(), b"", &[], &[])?;
-    assert_eq!(rt; outcome.status, Status::Done);
-    assert!(rt; made(outcome.sources.as_slice(), &[ATTACH]));
-    Ok(())
-}
-
-#[test]
-fn each_status_has_its_number(rt: HostRuntime) {
-    let image = ReadPlace::Image;
-    let rows = [
-        (Status::Done, 0),
-        (Status::ReadFault { place: image }, 4),
-        (Status::DiskFault, 8),
-        (Status::NoMemory, 14),
-    ];
-    for (status, number) in rows {
-        assert_eq!(rt; status.number(), number);
-    }
 }
 
 // A call over two sources in memory that hold nothing.
