@@ -24,3 +24,6 @@ pub const DOS_SIZE: usize = 64;
 
 /// The farthest place, from the file's front on, at which a PE header is looked for.
 pub const PE_PLACE_MOST: usize = 4096;
+
+#[cfg(test)]
+mod tests;
