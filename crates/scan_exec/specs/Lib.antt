@@ -1,3 +1,4 @@
 pub mod Exec
 pub mod Headers
 pub mod Marks
+pub mod Signatures

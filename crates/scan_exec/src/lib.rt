@@ -3,15 +3,18 @@
 //!
 //! The promise: `exec_at` and `unread_at` answer the header of `specs/Exec.antt`, and None exactly
 //! where none stands at the place; `exec_text` and the extents are those of that header.
+//! `find_execs` appends exactly the marks of `specs/Marks.antt` of the places that the buffer owns.
 //! `specs/Headers.antt` says which header a value of `Exec` or `Unread` has. `proofs/Rows.antt` works
 //! examples.
 #![tactic(auto)]
 
 mod exec;
+mod find;
 mod text;
 mod unread;
 
 pub use exec::{Exec, exec_at};
+pub use find::find_execs;
 pub use text::exec_text;
 pub use unread::{Unread, unread_at};
 
@@ -25,5 +28,7 @@ pub const DOS_SIZE: usize = 64;
 /// The farthest place, from the file's front on, at which a PE header is looked for.
 pub const PE_PLACE_MOST: usize = 4096;
 
+#[cfg(test)]
+mod search_tests;
 #[cfg(test)]
 mod tests;
