@@ -1,2 +1,3 @@
-pub mod Packet
+pub mod Fields
 pub mod Marks
+pub mod Packet
