@@ -27,26 +27,25 @@ is_elf bytes =
     && (slice_index bytes 6 == 1)
     && nat_le ELF_SIZE (length bytes)
 
-abbrev pub elf_class : List ℕ → List ℕ
-elf_class bytes = if slice_index bytes 4 == 1 then codes "32" else codes "64"
+-- the text of an ELF header of this class and byte order
+abbrev pub elf_text : ℕ → ℕ → ℕ → ℕ → List ℕ
+elf_text class order kind machine =
+    codes "ELF class=" ++ (if class == 1 then codes "32" else codes "64")
+    ++ codes " order=" ++ (if order == 1 then codes "little" else codes "big")
+    ++ codes " type=" ++ decimal kind ++ codes " machine=" ++ decimal machine
 
-abbrev pub is_little : List ℕ → Bool
-is_little bytes = slice_index bytes 5 == 1
-
-abbrev pub elf_order : List ℕ → List ℕ
-elf_order bytes = if is_little bytes then codes "little" else codes "big"
-
--- two bytes from a place on, in the order of the header
+-- two bytes from a place on, in the order that byte 5 of the header names
 abbrev pub elf_half : List ℕ → ℕ → ℕ
-elf_half bytes at = if is_little bytes then le16 bytes at else be16 bytes at
-
-abbrev pub elf_text : List ℕ → List ℕ
-elf_text bytes =
-    codes "ELF class=" ++ elf_class bytes ++ codes " order=" ++ elf_order bytes
-    ++ codes " type=" ++ decimal (elf_half bytes 16) ++ codes " machine=" ++ decimal (elf_half bytes 18)
+elf_half bytes at = if slice_index bytes 5 == 1 then le16 bytes at else be16 bytes at
 
 unfoldable pub elf_of : List ℕ → Option Header
-elf_of bytes = if is_elf bytes then Some (record { text = elf_text bytes; extent = ELF_SIZE }) else None
+elf_of bytes =
+    if is_elf bytes
+    then Some (record {
+      text = elf_text (slice_index bytes 4) (slice_index bytes 5) (elf_half bytes 16) (elf_half bytes 18);
+      extent = ELF_SIZE;
+    })
+    else None
 
 -- ---- PE (Microsoft PE Format, "MS-DOS Stub", "Signature" and "COFF File Header")
 
@@ -63,14 +62,19 @@ is_pe bytes =
     && nat_le (pe_place bytes + 12) (length bytes)
     && begins (drop (pe_place bytes) bytes) (codes "PE" ++ 0 ∷ 0 ∷ [])
 
-abbrev pub pe_text : List ℕ → List ℕ
-pe_text bytes =
-    codes "PE machine=" ++ decimal (le16 bytes (pe_place bytes + 4))
-    ++ codes " sections=" ++ decimal (le16 bytes (pe_place bytes + 6))
-    ++ codes " time=" ++ decimal (le32 bytes (pe_place bytes + 8))
+-- the text of a PE header
+abbrev pub pe_text : ℕ → ℕ → ℕ → List ℕ
+pe_text machine sections time =
+    codes "PE machine=" ++ decimal machine ++ codes " sections=" ++ decimal sections ++ codes " time=" ++ decimal time
 
 unfoldable pub pe_of : List ℕ → Option Header
-pe_of bytes = if is_pe bytes then Some (record { text = pe_text bytes; extent = DOS_SIZE }) else None
+pe_of bytes =
+    if is_pe bytes
+    then Some (record {
+      text = pe_text (le16 bytes (pe_place bytes + 4)) (le16 bytes (pe_place bytes + 6)) (le32 bytes (pe_place bytes + 8));
+      extent = DOS_SIZE;
+    })
+    else None
 
 -- the executable's header at the place: that of ELF, or else that of PE
 unfoldable pub exec_of : Around → Option Header

@@ -1,2 +1,3 @@
 pub mod Exec
+pub mod Headers
 pub mod Marks

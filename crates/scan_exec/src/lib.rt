@@ -1,9 +1,19 @@
 //! The headers of executable files, ELF and PE, with what they say of the machine and the file, and the
 //! signatures of compressed files, gzip and ZIP, which a scan notes and leaves unread.
 //!
-//! `specs/Exec.antt` says when each of them stands at a place and which text it shows;
-//! `proofs/Rows.antt` works examples of it.
+//! The promise: `exec_at` and `unread_at` answer the header of `specs/Exec.antt`, and None exactly
+//! where none stands at the place; `exec_text` and the extents are those of that header.
+//! `specs/Headers.antt` says which header a value of `Exec` or `Unread` has. `proofs/Rows.antt` works
+//! examples.
 #![tactic(auto)]
+
+mod exec;
+mod text;
+mod unread;
+
+pub use exec::{Exec, exec_at};
+pub use text::exec_text;
+pub use unread::{Unread, unread_at};
 
 /// How many bytes of an ELF header are read: up to its machine.
 pub const ELF_SIZE: usize = 20;
