@@ -1,3 +1,4 @@
 pub mod Fields
+pub mod Filter
 pub mod Marks
 pub mod Packet

@@ -8,10 +8,13 @@
 
 mod checksum;
 mod ether;
+mod filter;
+mod find;
 mod ipv4;
 mod text;
 
 pub use ether::{Ether, ether_at};
+pub use find::find_packets;
 pub use ipv4::{Ipv4, ipv4_at};
 pub use text::{ether_text, ip_text};
 
