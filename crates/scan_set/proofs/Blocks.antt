@@ -3,7 +3,8 @@ use Rattle.std.proofs.Common.{◌≡◌, ◌∙◌, ℕ, zero, suc, ◌+◌, ◌
 use Rattle.std.specs.Prelude.{Option}
 use Rattle.std.specs.List.{All}
 use Rattle.std.proofs.lemmas.List.{map-append}
-use Rattle.std.proofs.lemmas.List.Elements.{All-nil, All-cons, All-append, All-get_or}
+use Rattle.std.proofs.lemmas.Simd.{map-map}
+use Rattle.std.proofs.lemmas.List.Elements.{All-nil, All-cons, All-append, All-get_or, All-map}
 use Rattle.sbuf_nest.specs.Around.{Around, look_at}
 use Rattle.sbuf_nest.specs.Marks.{marks_of}
 use Rattle.sbuf_nest.specs.Turns.{path_at}
@@ -11,8 +12,10 @@ use Rattle.sbuf_nest.specs.declared.mark.Mark.{Mark}
 use Rattle.sbuf_nest.specs.declared.turn.Turn.{Turn}
 use Rattle.scan_set.specs.Built.{IsBuilt}
 use Rattle.scan_set.specs.Here.{feature_of, here, owned}
+use Rattle.scan_set.specs.Events.{own_event, event_feature}
 use Rattle.scan_set.specs.Marks.{marks_at, marked_feature, shape_of}
 use Rattle.scan_set.specs.Shapes.{Shape, shapes}
+use Rattle.scan_set.specs.declared.event.Event.{Event}
 use Rattle.scan_set.specs.declared.plan.ScanPlan.{ScanPlan}
 use Rattle.scan_set.proofs.Says.{Sited, Says, said, sited, marks_say}
 
@@ -91,8 +94,13 @@ module _ (plan : ScanPlan) (built : IsBuilt plan) (bytes : List ℕ) where
       ∙ sym (map-append (marked_feature plan bytes base) marks (marks_of (marks_at plan) bytes (first + 1) count))
 
   -- each mark gives its feature, and there is no other
-  pub owned_marked : (base first count : ℕ) → owned [] plan plan.depth [] bytes base first count ≡ map (marked_feature plan bytes base) (marks_of (marks_at plan) bytes first count)
+  owned_marked : (base first count : ℕ) → owned [] plan plan.depth [] bytes base first count ≡ map (marked_feature plan bytes base) (marks_of (marks_at plan) bytes first count)
   owned_marked base first count = ap (λ (depth : ℕ). owned [] plan depth [] bytes base first count) built.depth ∙ features_of_places base first count
+
+  -- each event gives its feature, and there is no other
+  pub owned_events : (base first count : ℕ) → owned [] plan plan.depth [] bytes base first count ≡ map (event_feature plan bytes base) (map own_event (marks_of (marks_at plan) bytes first count))
+  owned_events base first count =
+      owned_marked base first count ∙ sym (map-map (event_feature plan bytes base) own_event (marks_of (marks_at plan) bytes first count))
 
   below_places : (end first count : ℕ) → first + count ≤ end → All (λ (mark : Mark). mark.at < end) (marks_of (marks_at plan) bytes first count)
   unfolding marks_of
@@ -103,9 +111,9 @@ module _ (plan : ScanPlan) (built : IsBuilt plan) (bytes : List ℕ) where
       (below_said end look first (marks_at plan look first) (shapes [] plan look) (omega arith) (marks_say plan look first built))
       (below_places end (first + 1) count (omega arith))
 
-  -- each of the marks of a run is at one of the buffer's places
-  pub place_below : (first count : ℕ) (marks : List Mark) (i : ℕ) (other : Mark) → first + count ≤ length bytes →
-      marks ≡ marks_of (marks_at plan) bytes first count → i < length marks → (get_or marks i other).at < length bytes
-  place_below first count marks i other within all lt =
-      let P : Mark → Type 0 = λ mark. mark.at < length bytes in
-      All-get_or P marks i other lt (subst (All P) (sym all) (below_places (length bytes) first count within))
+  -- each of the events of a run is at one of the buffer's places
+  pub place_below : (first count : ℕ) (events : List Event) (i : ℕ) (other : Event) → first + count ≤ length bytes →
+      events ≡ map own_event (marks_of (marks_at plan) bytes first count) → i < length events → (get_or events i other).at < length bytes
+  place_below first count events i other within all lt =
+      let P : Event → Type 0 = λ event. event.at < length bytes in
+      All-get_or P events i other lt (subst (All P) (sym all) (All-map P own_event _ (below_places (length bytes) first count within)))

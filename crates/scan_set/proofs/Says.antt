@@ -1,17 +1,21 @@
 -- The marks of a place say its shapes.
-use Rattle.std.proofs.Common.{◌≡◌, ◌∙◌, ℕ, Bool, true, false, List, [], ◌++◌, map, sym, ap, refl, Option, Some, None}
+use Rattle.std.proofs.Common.{◌≡◌, ◌∙◌, ℕ, Bool, true, false, List, [], ◌++◌, map, sym, ap, refl, subst, Option, Some, None, append_assoc}
+use Rattle.std.specs.Prelude.{option_map, if◌then◌else◌}
 use Rattle.std.proofs.lemmas.List.{append-nil, map-append}
-use Rattle.forensic_path.specs.declared.feature.Kind.TheVariants.{Url, Domain}
+use Rattle.forensic_path.specs.declared.feature.Kind.TheVariants.{Url, Domain, Ip, Ether, Exec, Unread}
 use Rattle.forensic_path.specs.declared.scanner.Scanner.TheVariants as scanner
 use Rattle.forensic_path.specs.Scanners.{is_on}
 use Rattle.sbuf_nest.specs.Around.{Around}
+use Rattle.sbuf_nest.specs.Marks.{marked}
 use Rattle.sbuf_nest.specs.declared.mark.Mark.{Mark}
 use Rattle.scan_url.specs.Url.{url_of}
 use Rattle.scan_url.specs.Domain.{domain_of}
-use Rattle.scan_url.specs.Marks.{url_marks}
+use Rattle.scan_net.specs.Marks.{address_marks}
+use Rattle.scan_net.specs.Packet.{Addresses, ip_of, ether_of}
+use Rattle.scan_exec.specs.Exec.{Header, exec_of, unread_of}
 use Rattle.scan_set.specs.Built.{IsBuilt}
-use Rattle.scan_set.specs.Marks.{marks_at, shape_of}
-use Rattle.scan_set.specs.Shapes.{Shape, when, bytes_shape, shapes}
+use Rattle.scan_set.specs.Marks.{urls_at, packets_at, execs_at, marks_at, shape_of}
+use Rattle.scan_set.specs.Shapes.{Shape, when, bytes_shape, address_shapes, header_shape, shapes}
 use Rattle.scan_set.specs.declared.plan.ScanPlan.{ScanPlan}
 
 -- a shape and its place
@@ -27,31 +31,88 @@ sited place shape = record { at = place; shape = shape }
 
 -- the marks say these shapes in order, each at the place
 abbrev pub Says : Around → ℕ → List Mark → List Shape → Type 0
-Says look place marks shapes = map (said look) marks ≡ map (sited place) shapes
+Says look place marks found = map (said look) marks ≡ map (sited place) found
 
--- those of one scanner, then those of the next ones
-pub says_more : (look : Around) (place : ℕ) (marks more : List Mark) (a b : List Shape) → Says look place marks a → Says look place more b →
-    Says look place (marks ++ more) (a ++ b)
-says_more look place marks more a b p q =
-    map-append (said look) marks more ∙ ap (λ front. front ++ map (said look) more) p ∙ ap (λ back. map (sited place) a ++ back) q
-    ∙ sym (map-append (sited place) a b)
+module _ (look : Around) (place : ℕ) where
+  -- those of one search, then those of the next ones
+  pub says_more : (marks more : List Mark) (a b : List Shape) → Says look place marks a → Says look place more b →
+      Says look place (marks ++ more) (a ++ b)
+  says_more marks more a b p q =
+      map-append (said look) marks more ∙ ap (λ front. front ++ map (said look) more) p ∙ ap (λ back. map (sited place) a ++ back) q
+      ∙ sym (map-append (sited place) a b)
 
-url_says : (want_url want_domain : Bool) (look : Around) (place : ℕ) (url domain : Option ℕ) → url_of look ≡ url → domain_of look ≡ domain →
-    Says look place (url_marks want_url want_domain look place)
-    (when want_url (bytes_shape Url look (url_of look)) ++ when want_domain (bytes_shape Domain look (domain_of look)))
-url_says false false look place url domain p q = refl
-url_says false true look place url None p q = rw q refl
-url_says false true look place url (Some m) p q = rw q refl
-url_says true false look place None domain p q = rw p refl
-url_says true false look place (Some n) domain p q = rw p refl
-url_says true true look place None None p q = rw (p, q) refl
-url_says true true look place None (Some m) p q = rw (p, q) refl
-url_says true true look place (Some n) None p q = rw (p, q) refl
-url_says true true look place (Some n) (Some m) p q = rw (p, q) refl
+  -- those of a scanner, where it is on
+  says_when : (on : Bool) (marks : List Mark) (found : List Shape) → Says look place marks found →
+      Says look place (if on then marks else []) (when on found)
+  says_when true marks found says = says
+  says_when false marks found says = refl
 
--- the marks of a place are all of its shapes, where the plan asks for nothing else
-pub marks_say : (plan : ScanPlan) (look : Around) (place : ℕ) → IsBuilt plan → Says look place (marks_at plan look place) (shapes [] plan look)
-unfolding shapes
-marks_say plan look place built =
-    rw (built.net, built.exec, built.unread, built.find, built.word)
-    (simp append-nil (url_says (is_on plan.scanners scanner.Url) (is_on plan.scanners scanner.Domain) look place (url_of look) (domain_of look) refl refl))
+  -- ---- each kind
+
+  url_says : (url : Option ℕ) → Says look place (marked Url 0 place url) (bytes_shape Url look url)
+  url_says None = refl
+  url_says (Some n) = refl
+
+  domain_says : (domain : Option ℕ) → Says look place (marked Domain 0 place domain) (bytes_shape Domain look domain)
+  domain_says None = refl
+  domain_says (Some n) = refl
+
+  ip_says : (ip : Option Addresses) → ip_of look ≡ ip → Says look place (address_marks Ip place ip) (address_shapes Ip ip)
+  ip_says None is = refl
+  ip_says (Some found) is = rw is refl
+
+  ether_says : (ether : Option Addresses) → ether_of look ≡ ether → Says look place (address_marks Ether place ether) (address_shapes Ether ether)
+  ether_says None is = refl
+  ether_says (Some found) is = rw is refl
+
+  exec_says : (exec : Option Header) → exec_of look ≡ exec →
+      Says look place (marked Exec 0 place (option_map (λ header. header.extent) exec)) (header_shape Exec exec)
+  exec_says None is = refl
+  exec_says (Some found) is = rw is refl
+
+  unread_says : (unread : Option Header) → unread_of look ≡ unread →
+      Says look place (marked Unread 0 place (option_map (λ header. header.extent) unread)) (header_shape Unread unread)
+  unread_says None is = refl
+  unread_says (Some found) is = rw is refl
+
+-- ---- each search
+
+module _ (plan : ScanPlan) (look : Around) (place : ℕ) where
+  abbrev pub url_shapes : List Shape
+  url_shapes =
+      when (is_on plan.scanners scanner.Url) (bytes_shape Url look (url_of look))
+      ++ when (is_on plan.scanners scanner.Domain) (bytes_shape Domain look (domain_of look))
+
+  abbrev pub packet_shapes : List Shape
+  packet_shapes = when (is_on plan.scanners scanner.Net) (address_shapes Ip (ip_of look) ++ address_shapes Ether (ether_of look))
+
+  abbrev pub exec_shapes : List Shape
+  exec_shapes =
+      when (is_on plan.scanners scanner.Exec) (header_shape Exec (exec_of look))
+      ++ when (is_on plan.scanners scanner.Unread) (header_shape Unread (unread_of look))
+
+  pub urls_say : Says look place (urls_at plan look place) url_shapes
+  urls_say =
+      says_more look place _ _ _ _ (says_when look place (is_on plan.scanners scanner.Url) _ _ (url_says look place (url_of look)))
+      (says_when look place (is_on plan.scanners scanner.Domain) _ _ (domain_says look place (domain_of look)))
+
+  pub packets_say : Says look place (packets_at plan look place) packet_shapes
+  packets_say =
+      says_when look place (is_on plan.scanners scanner.Net) _ _
+      (says_more look place _ _ _ _ (ip_says look place (ip_of look) refl) (ether_says look place (ether_of look) refl))
+
+  pub execs_say : Says look place (execs_at plan look place) exec_shapes
+  execs_say =
+      says_more look place _ _ _ _ (says_when look place (is_on plan.scanners scanner.Exec) _ _ (exec_says look place (exec_of look) refl))
+      (says_when look place (is_on plan.scanners scanner.Unread) _ _ (unread_says look place (unread_of look) refl))
+
+  -- the marks of a place are all of its shapes, where the plan asks for nothing else
+  pub marks_say : IsBuilt plan → Says look place (marks_at plan look place) (shapes [] plan look)
+  unfolding shapes
+  marks_say built =
+      let exec = when (is_on plan.scanners scanner.Exec) (header_shape Exec (exec_of look)) in
+      let unread = when (is_on plan.scanners scanner.Unread) (header_shape Unread (unread_of look)) in
+      rw (built.find, built.word)
+      (simp append-nil
+      (subst (Says look place (marks_at plan look place)) (sym (append_assoc (url_shapes ++ packet_shapes) exec unread))
+      (says_more look place _ _ _ _ (says_more look place _ _ _ _ urls_say packets_say) execs_say)))

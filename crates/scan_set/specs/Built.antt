@@ -6,9 +6,6 @@ use Rattle.scan_set.specs.declared.plan.ScanPlan.{ScanPlan}
 
 -- no scanner is on that is not searched for yet, and no decoded bytes are searched
 pub record IsBuilt (plan : ScanPlan) : Type 0 where
-  pub net : is_on plan.scanners scanner.Net ≡ false
-  pub exec : is_on plan.scanners scanner.Exec ≡ false
-  pub unread : is_on plan.scanners scanner.Unread ≡ false
   pub find : is_on plan.scanners scanner.Find ≡ false
   pub word : is_on plan.scanners scanner.Word ≡ false
   pub depth : plan.depth ≡ 0

@@ -1,67 +1,148 @@
-// The feature of a mark.
-ghost use Rattle.std.specs.Prelude.{◌≡◌, ◌<◌, ◌++◌, length, IfOk};
-ghost use Rattle.sbuf_nest.specs.Around.{seen};
+// The features of events.
+ghost use Rattle.std.specs.Prelude.{◌≡◌, ◌<◌, [], ◌∷◌, ◌++◌, length, IfOk, OnOk};
+ghost use Rattle.sbuf_nest.specs.Around.{seen, look_at};
+ghost use Rattle.scan_net.specs.Packet.{ip_of, ether_of};
+ghost use Rattle.scan_exec.specs.Exec.{exec_of, unread_of};
+ghost use Rattle.scan_set.specs.Events.{event_feature};
 ghost use Rattle.scan_set.specs.Here.{context_of};
-ghost use Rattle.scan_set.specs.Marks.{text_of, marked_feature};
+ghost use Rattle.scan_set.specs.Marks.{text_of, address_text, header_text, marked_feature};
 
 use crate::ScanPlan;
+use crate::event::{Event, Sign};
 use byte_kit::{Bytes, NoMemory};
-use forensic_path::{Feature, Path, Steps};
-use sbuf_nest::{Look, Mark, Sbuf};
+use forensic_path::{Feature, Kind, Path, Steps};
+use sbuf_nest::{LOOK_AFTER, LOOK_BEFORE, Look, Mark, Sbuf};
+use scan_exec::{exec_at, exec_text, unread_at};
+use scan_net::{ether_at, ether_text, ip_text, ipv4_at};
 use std::alloc::Global;
 
-// The feature of a mark of the buffer.
-pub(crate) fn marked_feature(
+// Appends the feature of an event of the buffer. It is made where it is to stand: a feature that is
+// handed up as a result is moved twice.
+pub(crate) fn add_event(
+    alloc: Global,
+    sb: &Sbuf,
+    plan: &ScanPlan,
+    event: &Event,
+    out: &mut Vec<Feature>,
+) -> Result<(), NoMemory>
+    requires { event.now.at < length sb.now.bytes.now }
+    ensures { OnOk result (out.new.items ≡ out.old.items ++ event_feature plan.now sb.now.bytes.now sb.now.base event.now ∷ []) }
+{
+    match event.sign {
+        Sign::Own {
+            kind,
+            which,
+            extent,
+        } => {
+            let mark = Mark {
+                at: event.at,
+                kind,
+                which,
+                extent,
+            };
+            add_marked(alloc, sb, plan, &mark, out)
+        }
+    }
+}
+
+// Appends the feature of a mark of the buffer.
+fn add_marked(
     alloc: Global,
     sb: &Sbuf,
     plan: &ScanPlan,
     mark: &Mark,
-) -> Result<Feature, NoMemory>
+    out: &mut Vec<Feature>,
+) -> Result<(), NoMemory>
     requires { mark.now.at < length sb.now.bytes.now }
-    ensures { IfOk result (λ feature. feature ≡ marked_feature plan.now sb.now.bytes.now sb.now.base mark.now) }
+    ensures { OnOk result (out.new.items ≡ out.old.items ++ marked_feature plan.now sb.now.bytes.now sb.now.base mark.now ∷ []) }
 {
     let look = sb.look(mark.at);
     let feature = text_of(alloc, &look, mark)?;
-    let context = context_of(alloc, &look, mark.extent, plan.context)?;
+    let context = context_of(alloc, sb, mark.at, mark.extent, plan.context)?;
     let path = Path {
         top: sb.place(mark.at),
         steps: Steps::make(alloc),
     };
-    Ok(Feature {
+    out.push(Feature {
         kind: mark.kind,
         path,
         feature,
         context,
-    })
+    })?;
+    Ok(())
 }
 
-// The text of what was found: the bytes that it covers.
+// The text of what was found: what its header shows, or the bytes that it covers.
 fn text_of(alloc: Global, look: &Look, mark: &Mark) -> Result<Bytes, NoMemory>
     ensures { IfOk result (λ text. text ≡ text_of (seen look.now) mark.now) }
 {
-    let count = (mark.extent as usize).min(look.after.len());
-    Bytes::copy(alloc, look.after.split_at(count).0)
+    match mark.kind {
+        Kind::Ip => ip_address(alloc, look, mark.which),
+        Kind::Ether => ether_address(alloc, look, mark.which),
+        Kind::Exec => exec_header(alloc, look),
+        Kind::Unread => unread_name(alloc, look),
+        Kind::Url | Kind::Domain | Kind::Find | Kind::Word => {
+            let count = (mark.extent as usize).min(look.after.len());
+            Bytes::copy(alloc, look.after.split_at(count).0)
+        }
+    }
 }
 
-// So many bytes of the place, and up to `reach` bytes on either side of them.
-fn context_of(alloc: Global, look: &Look, extent: u32, reach: u16) -> Result<Bytes, NoMemory>
-    ensures { IfOk result (λ context. context ≡ context_of reach (seen look.now) extent) }
+// The first or the second address of the IPv4 header at the place: its source or its destination.
+fn ip_address(alloc: Global, look: &Look, which: u16) -> Result<Bytes, NoMemory>
+    ensures { IfOk result (λ text. text ≡ address_text which (ip_of (seen look.now))) }
 {
-    let passed = look.before.len().saturating_sub(reach as usize);
-    let count = (extent as usize + reach as usize).min(look.after.len());
-    joined(
-        alloc,
-        look.before.split_at(passed).1,
-        look.after.split_at(count).0,
-    )
+    match ipv4_at(look) {
+        None => Ok(Bytes::from(Vec::new(alloc))),
+        Some(ip) if which == 0 => ip_text(alloc, ip.from),
+        Some(ip) => ip_text(alloc, ip.to),
+    }
 }
 
-// A copy of both, the one behind the other.
-fn joined(alloc: Global, front: &[u8], back: &[u8]) -> Result<Bytes, NoMemory>
-    ensures { IfOk result (λ bytes. bytes ≡ front.now ++ back.now) }
+// The first or the second address of the Ethernet header at the place: its destination or its source.
+fn ether_address(alloc: Global, look: &Look, which: u16) -> Result<Bytes, NoMemory>
+    ensures { IfOk result (λ text. text ≡ address_text which (ether_of (seen look.now))) }
 {
-    let mut bytes = Vec::with_capacity(alloc, front.len() + back.len())?;
-    bytes.extend_from_slice(front)?;
-    bytes.extend_from_slice(back)?;
-    Ok(Bytes::from(bytes))
+    match ether_at(look) {
+        None => Ok(Bytes::from(Vec::new(alloc))),
+        Some(ether) if which == 0 => ether_text(alloc, ether.to),
+        Some(ether) => ether_text(alloc, ether.from),
+    }
+}
+
+// What the executable's header at the place shows.
+fn exec_header(alloc: Global, look: &Look) -> Result<Bytes, NoMemory>
+    ensures { IfOk result (λ text. text ≡ header_text (exec_of (seen look.now))) }
+{
+    match exec_at(look) {
+        None => Ok(Bytes::from(Vec::new(alloc))),
+        Some(exec) => exec_text(alloc, &exec),
+    }
+}
+
+// The name of the compressed file at the place.
+fn unread_name(alloc: Global, look: &Look) -> Result<Bytes, NoMemory>
+    ensures { IfOk result (λ text. text ≡ header_text (unread_of (seen look.now))) }
+{
+    match unread_at(look) {
+        None => Ok(Bytes::from(Vec::new(alloc))),
+        Some(unread) => Bytes::copy(alloc, unread.text()),
+    }
+}
+
+// So many bytes of the place, and up to `reach` bytes on either side of them, as far as its Look goes.
+fn context_of(
+    alloc: Global,
+    sb: &Sbuf,
+    at: usize,
+    extent: u32,
+    reach: u16,
+) -> Result<Bytes, NoMemory>
+    requires { at < length sb.now.bytes.now }
+    ensures { IfOk result (λ context. context ≡ context_of reach (look_at sb.now.bytes.now at) extent) }
+{
+    let ahead = at.min(LOOK_BEFORE).min(reach as usize);
+    let behind = (extent as usize + reach as usize).min(LOOK_AFTER);
+    let part = sb.part(at - ahead, at + behind.min(sb.len() - at));
+    Bytes::copy(alloc, part)
 }

@@ -10,11 +10,18 @@
 //! `specs/Decoders.antt` which texts are decoded there; the definitions say already which features
 //! decoded bytes have, in buffers within buffers. `specs/Built.antt` says what a plan may ask for so
 //! far.
+//!
+//! Each search lists the marks of a run of places, in order of place (`specs/Marks.antt`). As events
+//! (`specs/Events.antt`) they are merged by place (`specs/Merged.antt`), so nothing is sorted, and each
+//! event makes its feature.
 #![tactic(auto)]
 
+mod event;
 mod feature;
+mod merge;
 mod plan;
 mod scan;
+mod search;
 mod tools;
 
 pub use plan::ScanPlan;

@@ -5,17 +5,16 @@
 // features then read bytes that are still in the second level of the processor's cache, which has
 // 256 KiB or more. At the end of a search of a whole image its front has long left the cache.
 ghost use Rattle.std.specs.Prelude.{◌≡◌, ◌-◌, [], ◌++◌, IfOk, OnOk};
-ghost use Rattle.sbuf_nest.specs.Marks.{owned_marks};
 ghost use Rattle.scan_set.specs.Built.{IsBuilt};
 ghost use Rattle.scan_set.specs.Here.{owned};
-ghost use Rattle.scan_set.specs.Marks.{marks_at};
 
-use crate::feature::marked_feature;
+use crate::feature::add_event;
+use crate::merge::Lists;
+use crate::search::search_block;
 use crate::{ScanPlan, Tools};
 use byte_kit::NoMemory;
-use forensic_path::{Feature, Scanner};
-use sbuf_nest::{Found, Sbuf};
-use scan_url::find_urls;
+use forensic_path::Feature;
+use sbuf_nest::Sbuf;
 use std::alloc::Global;
 
 // How many places are searched before their features are made.
@@ -34,7 +33,7 @@ pub fn scan_owned(sb: &Sbuf, plan: &ScanPlan, tools: &mut Tools) -> Result<Vec<F
     while next < sb.own_to() {
         let to = (next + BLOCK_BYTES).min(sb.own_to());
         let block = Sbuf::of(sb.bytes, next, to, sb.base);
-        scan_block_into(tools.alloc, &block, plan, &mut tools.found, &mut out)?;
+        scan_block_into(tools.alloc, &block, plan, &mut tools.lists, &mut out)?;
         next = to;
     }
     Ok(out)
@@ -45,29 +44,17 @@ fn scan_block_into(
     alloc: Global,
     block: &Sbuf,
     plan: &ScanPlan,
-    found: &mut Found,
+    lists: &mut Lists,
     out: &mut Vec<Feature>,
 ) -> Result<(), NoMemory>
     requires built { IsBuilt plan.now }
     ensures { OnOk result (out.new.items ≡ out.old.items ++ owned [] plan.now plan.now.depth [] block.now.bytes.now block.now.base block.now.own_from (block.now.own_to - block.now.own_from)) }
 {
-    search_block(block, plan, found)?;
-    out.reserve(found.marks().len())?;
-    for mark in found.marks() {
-        out.push(marked_feature(alloc, block, plan, mark)?)?;
+    search_block(block, plan, lists)?;
+    let events = lists.events.as_slice();
+    out.reserve(events.len())?;
+    for event in events {
+        add_event(alloc, block, plan, event, out)?;
     }
     Ok(())
-}
-
-// Lists the marks of a block, each scanner's where it is on, in place of those that were listed.
-fn search_block(block: &Sbuf, plan: &ScanPlan, found: &mut Found) -> Result<(), NoMemory>
-    ensures { OnOk result (found.new ≡ owned_marks (marks_at plan.now) block.now) }
-{
-    found.clear();
-    find_urls(
-        block,
-        Scanner::Url.is_on(plan.scanners),
-        Scanner::Domain.is_on(plan.scanners),
-        found,
-    )
 }

@@ -1,7 +1,7 @@
 // What a scan keeps from one buffer to the next.
 use crate::ScanPlan;
+use crate::merge::Lists;
 use byte_kit::NoMemory;
-use sbuf_nest::Found;
 use std::alloc::Global;
 
 /// The lists that a scan fills and clears, kept from one buffer to the next so that none is made
@@ -10,8 +10,8 @@ use std::alloc::Global;
 #[derive(Drop)]
 pub struct Tools {
     pub(crate) alloc: Global,
-    // The marks of a block.
-    pub(crate) found: Found,
+    // What the searches of a block find.
+    pub(crate) lists: Lists,
 }
 
 impl Tools {
@@ -19,7 +19,7 @@ impl Tools {
     pub fn make(alloc: Global, _plan: &ScanPlan) -> Result<Tools, NoMemory> {
         Ok(Tools {
             alloc,
-            found: Found::make(alloc),
+            lists: Lists::make(alloc),
         })
     }
 }
