@@ -6,6 +6,10 @@ ghost use Rattle.scan_exec.specs.Headers.{header_of, IsKnown};
 use crate::Exec;
 use byte_kit::{Bytes, NoMemory};
 use std::alloc::Global;
+use std::fmt::Write;
+
+// The most bytes that a text has. With room for them it is made by one allocation.
+const TEXT_MOST: usize = "ELF class=64 order=little type=65535 machine=65535".len();
 
 /// The text of a header's feature, such as `ELF class=64 order=little type=2 machine=62` or
 /// `PE machine=332 sections=3 time=1`, as `header_of` of `specs/Headers.antt` has it. It asks that
@@ -35,14 +39,19 @@ fn elf_text(alloc: Global, class: u8, order: u8, kind: u16, machine: u16) -> Res
 {
     let bits = class_name(class);
     let order = order_name(order);
-    let text = format!(in alloc; "ELF class={bits} order={order} type={kind} machine={machine}")?;
+    let mut text = String::with_capacity(alloc, TEXT_MOST)?;
+    write!(
+        text,
+        "ELF class={bits} order={order} type={kind} machine={machine}"
+    )?;
     Ok(Bytes::from(text.into_bytes()))
 }
 
 fn pe_text(alloc: Global, machine: u16, sections: u16, time: u32) -> Result<Bytes, NoMemory>
     ensures { IfOk result (λ text. text ≡ spec.pe_text machine sections time) }
 {
-    let text = format!(in alloc; "PE machine={machine} sections={sections} time={time}")?;
+    let mut text = String::with_capacity(alloc, TEXT_MOST)?;
+    write!(text, "PE machine={machine} sections={sections} time={time}")?;
     Ok(Bytes::from(text.into_bytes()))
 }
 
