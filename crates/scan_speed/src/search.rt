@@ -9,8 +9,8 @@ use scan_set::{ScanPlan, Tools, scan_owned};
 use scan_url::find_urls;
 use std::alloc::Global;
 
-// The scanners that are on in a search for everything, a bit each: those of URLs and of domains.
-const SCANNERS: u16 = 0x0003;
+// The scanners that are on in a search for everything, a bit each: every one that is built.
+const SCANNERS: u16 = 0x001F;
 
 // How many bytes of context a feature has on either side.
 const CONTEXT_BYTES: u16 = 16;
