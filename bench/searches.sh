@@ -2,8 +2,8 @@
 # The speed of each search over 64 MiB, without the start of a program and the reading of a file.
 #
 # Run it at the top of the repository, once `rt run` or `rt ci` has built scan_speed. It is no test:
-# it prints a table of GB a second (10^9 bytes) and judges nothing. Each time is the least of RUNS
-# runs, and a figure is that of MANY searches of one buffer, less that of one.
+# it prints a table of GB a second (10^9 bytes) and judges nothing. Each time is processor time, the
+# least of RUNS runs, and a figure is that of MANY searches of one buffer, less that of one.
 #
 #   url net exec   the search for one scanner's shapes: `find_urls`, `find_packets`, `find_execs`
 #   all            the features of a scan by every scanner that is built: `scan_owned`
@@ -22,11 +22,11 @@ SCAN_SPEED=${SCAN_SPEED:-crates/scan_speed/out/scan_speed}
 PEER=${PEER:-}
 PEER_WORDS=${PEER_WORDS:-}
 SIZE=67108864
+TIMEFORMAT='%3U %3S'
 
 for tool in awk find head mktemp sort wc xargs cat; do
     command -v "$tool" > /dev/null || { echo "skipped: no $tool"; exit 0; }
 done
-[ -n "${EPOCHREALTIME:-}" ] || { echo "skipped: bash 5 or later is needed"; exit 0; }
 [ -x "$SCAN_SPEED" ] || { echo "skipped: no $SCAN_SPEED"; exit 0; }
 
 work=$(mktemp -d) || exit 1
@@ -45,13 +45,13 @@ run_peer() {
     "$PEER" scan $PEER_WORDS "$1" "$work/out" > /dev/null 2>&1
 }
 
-# The least time of a command, in microseconds; nothing where it fails.
+# The least processor time of a command, in milliseconds; nothing where it fails.
 least() {
-    local best= start spent
+    local best='' spent
     for ((i = 0; i < RUNS; i++)); do
-        start=${EPOCHREALTIME/[.,]/}
-        "$@" || return
-        spent=$((${EPOCHREALTIME/[.,]/} - start))
+        spent=$({ time "$@"; } 2>&1) || return
+        spent=${spent//[.,]/}
+        spent=$((10#${spent% *} + 10#${spent#* }))
         if [ -z "$best" ] || ((spent < best)); then best=$spent; fi
     done
     echo "$best"
@@ -60,8 +60,8 @@ least() {
 # GB a second of so many passes over an image, from the time of all and the time of what isn't counted.
 rate() {
     awk -v all="$1" -v less="$2" -v passes="$3" -v size="$(wc -c < "$work/$image")" 'BEGIN {
-        if (all == "" || less == "" || all - less < 20) print "-"
-        else printf "%.2f", size * passes / (all - less) / 1000
+        if (all == "" || less == "" || all - less < 5) print "-"
+        else printf "%.2f", size * passes / (all - less) / 1000000
     }'
 }
 
