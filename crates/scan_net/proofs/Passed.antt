@@ -6,6 +6,7 @@ use Rattle.std.proofs.lemmas.Bool.{eqb-true, leb-true, false≢true, cases_lt}
 use Rattle.std.specs.Cmp.Derive.{both_true}
 use Rattle.std.proofs.lemmas.Bool.{false_from_ne_true}
 use Rattle.std.proofs.lemmas.Bool.Decides.{nat_tests}
+use Rattle.std.proofs.Math.Bool.{and-false}
 use Rattle.std.proofs.lemmas.List.{get_or-take, get_or-drop, get_or_past}
 use Rattle.byte_kit.specs.Classes.{is_one_of}
 use Rattle.sbuf_nest.specs.Around.{Around, look_at}
@@ -80,14 +81,10 @@ no_ipv4_behind most place behind bytes near fails =
     no_front bytes (drop behind (take most (drop place bytes))) (place + behind)
     (seen_behind most place behind 0 bytes (omega arith) ∙ ap (slice_index bytes) at) (seen_behind most place behind 9 bytes near) fails
 
-and_false : (b : Bool) → (b && false) ≡ false
-and_false true = refl
-and_false false = refl
-
 no_marks : (look : Around) (place : ℕ) → begins_ipv4 look.after ≡ false → begins_ipv4 (drop ETHER_SIZE look.after) ≡ false
     → packet_marks look place ≡ []
 unfolding ip_of ether_of
-no_marks look place ip ether = rw ip (rw ether (rw and_false refl))
+no_marks look place ip ether = rw ip (rw ether (rw and-false refl))
 
 -- a place has no mark where it and the place behind an Ethernet header fail the test
 pub unmarked : (bytes : List ℕ) (place : ℕ) → may_begin_ipv4 bytes place ≡ false → may_begin_ipv4 bytes (place + ETHER_SIZE) ≡ false

@@ -1,6 +1,7 @@
 -- The texts of a header's addresses are those of its numbers.
-use Rattle.std.proofs.Common.{◌≡◌, ◌∙◌, ℕ, ◌+◌, ◌*◌, ◌^◌, ◌<◌, ◌≤◌, Bool, true, false, ◌&&◌, List, [], ◌∷◌, length, take, drop, Some, None, sym, ap, refl, arith}
+use Rattle.std.proofs.Common.{◌≡◌, ◌∙◌, ℕ, ◌+◌, ◌*◌, ◌^◌, ◌<◌, ◌≤◌, true, false, List, [], ◌∷◌, length, take, drop, Some, None, sym, ap, refl, arith}
 use Rattle.std.specs.Prelude.{slice_index}
+use Rattle.std.proofs.Math.Bool.{and-false}
 use Rattle.std.proofs.lemmas.List.{drop_all}
 use Rattle.byte_kit.specs.Numbers.{be16, be32}
 use Rattle.sbuf_nest.specs.Around.{Around}
@@ -97,11 +98,7 @@ pub no_ether : (look : Around) → begins_ether look.after ≡ false → None �
 unfolding ether_of
 no_ether look none = rw none refl
 
-and_false : (b : Bool) → (b && false) ≡ false
-and_false true = refl
-and_false false = refl
-
 -- no Ethernet header stands where its bytes are not all there
 pub ether_too_short : (bytes : List ℕ) → length bytes < 14 → begins_ether bytes ≡ false
 unfolding begins_ipv4
-ether_too_short bytes short = rw (drop_all 14 bytes (omega arith)) (and_false _)
+ether_too_short bytes short = rw (drop_all 14 bytes (omega arith)) (and-false _)

@@ -1,6 +1,7 @@
-// The checksum of a header, by the plain sum of its words: in it each carry counts 65,536, and 65,535
-// less where it goes around (RFC 1071 section 2). So the sum with carries is all ones exactly where the
-// plain one is a multiple of 65,535, but not 0.
+// The checksum of a header, by the plain sum of its words. In the ones' complement sum a carry out of the
+// high bit, which is worth 65,536, comes back as 1 (RFC 1071 section 1): it takes 65,535 off, and never
+// the last of the sum. So that sum is all ones exactly where the plain one is a multiple of 65,535, but
+// not 0.
 ghost use Rattle.std.specs.Prelude.{◌≡◌, ◌+◌, ◌≤◌, length, sum};
 ghost use Rattle.byte_kit.specs.Numbers.{be16};
 ghost use Rattle.scan_net.specs.Packet.{has_checksum, words_of};

@@ -5,9 +5,9 @@
 // place: an Ethernet header stands `ETHER_SIZE` bytes ahead of it. So the places from there up to it are
 // judged, most of them by two bytes.
 //
-// It costs the vector search, which sees each owned byte about once, and the judging. The worst image
-// has such a place wherever one can stand, as bytes 0x45 with a 1 behind each nine of them: each place is
-// judged then, and the search is begun anew for each of these places.
+// It costs the vector search, which sees each owned byte about once, and the judging. The worst image is
+// nine bytes 0x4F and nine bytes 1 in turn: every place is judged, half of them by the checksum of 60
+// bytes, and the search is begun anew for each of that half.
 ghost use Rattle.std.specs.Prelude.{◌≡◌, ◌++◌, OnOk, OnErr};
 ghost use Rattle.sbuf_nest.specs.Marks.{owned_marks, AppendsFirst};
 ghost use Rattle.sbuf_nest.specs.Around.{seen};

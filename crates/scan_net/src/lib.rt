@@ -2,8 +2,9 @@
 //! (RFC 894), and the addresses in them. What a packet carries isn't read.
 //!
 //! The promise: `ipv4_at` and `ether_at` answer the fields of a header exactly where
-//! `specs/Packet.antt` says that one stands, and `ip_text` and `ether_text` write the addresses as it
-//! shows them; `specs/Fields.antt` ties the numbers to these texts.
+//! `specs/Packet.antt` says that one stands, `ip_text` and `ether_text` write the addresses as it shows
+//! them (`specs/Fields.antt` ties the numbers to these texts), and `find_packets` appends exactly the
+//! marks of `specs/Marks.antt` of the places that the buffer owns.
 #![tactic(auto)]
 
 mod checksum;
