@@ -115,15 +115,16 @@ fn pe_at(bytes: &[u8]) -> Option<Exec>
         return None;
     }
     let at = le32_at(bytes, DOS_SIZE - 4)? as usize;
-    if at < DOS_SIZE || at > PE_PLACE_MOST || at + 12 > bytes.len() {
+    if at < DOS_SIZE || at > PE_PLACE_MOST {
         return None;
     }
-    if !bytes.split_at(at).1.starts_with(b"PE\0\0") {
+    let header = bytes.get(at..)?;
+    if !header.starts_with(b"PE\0\0") {
         return None;
     }
     Some(Exec::Pe {
-        machine: le16_at(bytes, at + 4)?,
-        sections: le16_at(bytes, at + 6)?,
-        time: le32_at(bytes, at + 8)?,
+        machine: le16_at(header, 4)?,
+        sections: le16_at(header, 6)?,
+        time: le32_at(header, 8)?,
     })
 }

@@ -30,3 +30,5 @@ pub const PE_PLACE_MOST: usize = 4096;
 
 #[cfg(test)]
 mod search_tests;
+#[cfg(test)]
+mod tests;

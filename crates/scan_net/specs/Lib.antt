@@ -1,2 +1,4 @@
-pub mod Packet
+pub mod Fields
+pub mod Filter
 pub mod Marks
+pub mod Packet

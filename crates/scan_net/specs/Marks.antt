@@ -6,6 +6,11 @@ use Rattle.sbuf_nest.specs.Around.{Around}
 use Rattle.sbuf_nest.specs.declared.mark.Mark.{Mark}
 use Rattle.scan_net.specs.Packet.{Addresses, ip_of, ether_of}
 
+-- how many bytes a header has, if there is one
+abbrev pub extent_of : Option Addresses → Option ℕ
+extent_of None = None
+extent_of (Some found) = Some found.extent
+
 -- a header at the place has a mark for each of its two addresses, in their order
 abbrev pub address_marks : Kind → ℕ → Option Addresses → List Mark
 address_marks what place None = []

@@ -86,10 +86,14 @@ hex_pair byte =
 abbrev pub with_colons : List ℕ → List ℕ
 with_colons address = join_with_byte 58 (map hex_pair address)
 
--- an Ethernet header at the place with IPv4 behind it: its destination, and then its source
+-- an Ethernet header stands at the front of the bytes, with a whole IPv4 header right behind it
+abbrev pub begins_ether : List ℕ → Bool
+begins_ether bytes = (be16 bytes 12 == ETHER_TYPE_IPV4) && begins_ipv4 (drop ETHER_SIZE bytes)
+
+-- an Ethernet header at the place: its destination, and then its source
 unfoldable pub ether_of : Around → Option Addresses
 ether_of look =
-    if (be16 look.after 12 == ETHER_TYPE_IPV4) && begins_ipv4 (drop ETHER_SIZE look.after) then Some (record {
+    if begins_ether look.after then Some (record {
       first = with_colons (slice_range look.after 0 6);
       second = with_colons (slice_range look.after 6 12);
       extent = ETHER_SIZE;

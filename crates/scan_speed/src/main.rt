@@ -1,13 +1,16 @@
-//! `scan_speed SCANNER FILE TIMES` runs a scanner's search over the bytes of a file so many times,
-//! and prints how many marks one run finds. The difference in time between few runs and many is the
-//! speed of the search itself, without the start of a program and the reading of a file.
+//! `scan_speed SEARCH FILE TIMES` runs a search over the bytes of a file so many times, and prints how
+//! much one run finds. The difference in time between few runs and many is the speed of the search
+//! itself, without the start of a program and the reading of a file.
 //!
-//! The scanner is `url` (URLs and domains).
+//! SEARCH is `url` (URLs and domains), `net` (packets) or `exec` (executables and compressed files),
+//! which count marks, or `all`, which counts the features of a scan by every scanner that is built.
 #![tactic(auto)]
 
+mod search;
+
+use crate::search::{Search, Searcher};
 use anyhow::{Context, Result, bail};
-use sbuf_nest::{Found, Sbuf};
-use scan_url::find_urls;
+use sbuf_nest::Sbuf;
 use std::{env, fs};
 
 fn main(rt: HostRuntime) -> Result<()> {
@@ -15,20 +18,20 @@ fn main(rt: HostRuntime) -> Result<()> {
     for word in env::args(&rt)?.skip(1) {
         words.push(word)?;
     }
-    let [scanner, file, times] = words.as_slice() else {
-        bail!("usage: scan_speed SCANNER FILE TIMES");
+    let [search, file, times] = words.as_slice() else {
+        bail!("usage: scan_speed SEARCH FILE TIMES");
     };
-    if scanner.as_str() != "url" {
-        bail!("no such scanner: {scanner}");
-    }
+    let Some(wanted) = Search::named(search.as_str()) else {
+        bail!("no such search: {search}");
+    };
     let times = times.parse::<u64>().context("reading the number of times")?;
     let bytes = fs::read(&rt, file.as_str()).context("reading the file")?;
     let sb = Sbuf::child(bytes.as_slice());
-    let mut found = Found::make(rt.alloc());
+    let mut searcher = Searcher::make(rt.alloc())?;
+    let mut found = 0;
     for _ in 0..times {
-        found.clear();
-        find_urls(&sb, true, true, &mut found)?;
+        found = searcher.run(wanted, &sb)?;
     }
-    println!(rt; "{}", found.marks().len())?;
+    println!(rt; "{found}")?;
     Ok(())
 }

@@ -1,8 +1,12 @@
 -- The checksum of a header by the plain sum of its words.
-use Rattle.std.specs.Prelude.{ℕ, zero, suc, ◌≡◌, ◌<◌, ◌≤◌, ◌+◌, ◌*◌, ◌/◌, ◌%◌, ◌==◌, ◌&&◌, nat_lt, Bool, List, [], ◌∷◌, fold, sum, All, refl}
+use Rattle.std.specs.Prelude.{ℕ, zero, suc, ◌≡◌, ◌<◌, ◌≤◌, ◌+◌, ◌*◌, ◌/◌, ◌%◌, ◌==◌, ◌&&◌, nat_lt, Bool, List, [], ◌∷◌, fold, sum, All, refl, length, drop}
+use Rattle.std.proofs.Common.{length-drop, ap}
+use Rattle.std.proofs.lemmas.List.{get_or_default}
+use Rattle.byte_kit.specs.Numbers.{be16}
 use Rattle.std.proofs.lemmas.List.Elements.{All-nil, All-cons, All-tail}
 use Rattle.std.proofs.lemmas.Bool.Decides.{nat_tests}
 use native.Mathlib.Omega.{arith}
+use Rattle.scan_net.proofs.Bytes.{Fit, two_from}
 use Rattle.scan_net.specs.Packet.{add_words, words_of, has_checksum}
 
 -- a multiple of 65,535, but not 0
@@ -61,3 +65,21 @@ pub has_checksum_by_sum : (header : List ℕ) → All IsByte header
 has_checksum_by_sum header small =
     let none : Beside 0 0 = record { small = omega arith; carries = 0; apart = refl; kept = λ positive. positive } in
     beside_sum 0 0 (words_of header) none (words_small header small)
+
+-- the words from a place on begin with the two bytes there
+pub words_more : (bytes : List ℕ) (at : ℕ) → at + 2 ≤ length bytes
+    → words_of (drop at bytes) ≡ be16 bytes at ∷ words_of (drop (at + 2) bytes)
+words_more bytes at fits = ap words_of (two_from bytes at fits)
+
+-- none are left where fewer than two bytes are
+pub words_end : (bytes : List ℕ) (at : ℕ) → length bytes < at + 2 → words_of (drop at bytes) ≡ []
+words_end bytes at few = short (drop at bytes) (omega (arith, length-drop at bytes))
+  where
+    short : (rest : List ℕ) → length rest < 2 → words_of rest ≡ []
+    short [] few = refl
+    short (last ∷ []) few = refl
+    short (high ∷ low ∷ rest) few = absurd (omega arith)
+
+-- the bytes of a slice fit
+pub bytes_small : (bytes : List ℕ) → Fit bytes → All IsByte bytes
+bytes_small bytes fits = λ i d within. omega (arith, get_or_default bytes i d 0 within, fits i)

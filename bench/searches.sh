@@ -1,0 +1,87 @@
+#!/usr/bin/env bash
+# The speed of each search over 64 MiB, without the start of a program and the reading of a file.
+#
+# Run it at the top of the repository, once `rt run` or `rt ci` has built scan_speed. It is no test:
+# it prints a table of GB a second (10^9 bytes) and judges nothing. Each time is the least of RUNS
+# runs, and a figure is that of MANY searches of one buffer, less that of one.
+#
+#   url net exec   the search for one scanner's shapes: `find_urls`, `find_packets`, `find_execs`
+#   all            the features of a scan by every scanner that is built: `scan_owned`
+#   peer           only where PEER names another program that knows `scan [OPTIONS] IMAGE OUT`: its whole
+#                  scan with the options PEER_WORDS, without the time that it takes on an empty image
+#
+# The images: files of this machine, one behind the other; random bytes; zeros. `-` stands where a
+# program fails, or where the time is too short to be told.
+set -u
+export LC_ALL=C
+
+RUNS=${RUNS:-10}
+MANY=${MANY:-11}
+SEARCHES=${SEARCHES:-url net exec all}
+SCAN_SPEED=${SCAN_SPEED:-crates/scan_speed/out/scan_speed}
+PEER=${PEER:-}
+PEER_WORDS=${PEER_WORDS:-}
+SIZE=67108864
+
+for tool in awk find head mktemp sort wc xargs cat; do
+    command -v "$tool" > /dev/null || { echo "skipped: no $tool"; exit 0; }
+done
+[ -n "${EPOCHREALTIME:-}" ] || { echo "skipped: bash 5 or later is needed"; exit 0; }
+[ -x "$SCAN_SPEED" ] || { echo "skipped: no $SCAN_SPEED"; exit 0; }
+
+work=$(mktemp -d) || exit 1
+trap 'rm -rf "$work"' EXIT
+
+# Files of the machine in the order of their names, up to 64 MiB of them.
+files() {
+    find /usr/bin /usr/lib /usr/share -type f -size -8192k -print0 2> /dev/null | sort -z \
+        | xargs -0 cat 2> /dev/null | head -c "$SIZE"
+}
+
+run_search() { "$SCAN_SPEED" "$1" "$2" "$3" > /dev/null 2>&1; }
+run_peer() {
+    rm -rf "$work/out"
+    # shellcheck disable=SC2086
+    "$PEER" scan $PEER_WORDS "$1" "$work/out" > /dev/null 2>&1
+}
+
+# The least time of a command, in microseconds; nothing where it fails.
+least() {
+    local best= start spent
+    for ((i = 0; i < RUNS; i++)); do
+        start=${EPOCHREALTIME/[.,]/}
+        "$@" || return
+        spent=$((${EPOCHREALTIME/[.,]/} - start))
+        if [ -z "$best" ] || ((spent < best)); then best=$spent; fi
+    done
+    echo "$best"
+}
+
+# GB a second of so many passes over an image, from the time of all and the time of what isn't counted.
+rate() {
+    awk -v all="$1" -v less="$2" -v passes="$3" -v size="$(wc -c < "$work/$image")" 'BEGIN {
+        if (all == "" || less == "" || all - less < 20) print "-"
+        else printf "%.2f", size * passes / (all - less) / 1000
+    }'
+}
+
+files > "$work/files"
+head -c "$SIZE" /dev/urandom > "$work/random"
+head -c "$SIZE" /dev/zero > "$work/zeros"
+: > "$work/empty"
+
+printf '%-8s' image
+for search in $SEARCHES ${PEER:+peer}; do printf ' %7s' "$search"; done
+printf '\n'
+for image in files random zeros; do
+    printf '%-8s' "$image"
+    for search in $SEARCHES; do
+        once=$(least run_search "$search" "$work/$image" 1)
+        many=$(least run_search "$search" "$work/$image" "$MANY")
+        printf ' %7s' "$(rate "$many" "$once" $((MANY - 1)))"
+    done
+    if [ -n "$PEER" ]; then
+        printf ' %7s' "$(rate "$(least run_peer "$work/$image")" "$(least run_peer "$work/empty")" 1)"
+    fi
+    printf '\n'
+done
