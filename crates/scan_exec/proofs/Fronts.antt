@@ -1,6 +1,6 @@
 -- Each executable and each compressed file begins with the first two bytes of a signature.
 use Rattle.std.proofs.Common.{◌≡◌, ◌∙◌, ℕ, ◌+◌, ◌/◌, ◌<◌, ◌==◌, Bool, true, false, ◌&&◌, ◌||◌, List, [], ◌∷◌, take, drop, get_or, sym, ap, refl, arith, None, codes, eqb-true}
-use Rattle.std.proofs.lemmas.Bool.{and_parts, agree_below_at}
+use Rattle.std.proofs.lemmas.Bool.{and_parts, agree_below_at, false_from_ne_true}
 use Rattle.std.proofs.lemmas.List.{get_or-take, get_or-drop}
 use Rattle.sbuf_nest.specs.Around.{Around, look_at}
 use Rattle.sbuf_nest.specs.declared.look.TheConstants.{LOOK_AFTER}
@@ -17,15 +17,11 @@ first_two a b rest (x ∷ y ∷ bytes) h =
     let parts = and_parts _ _ h in
     (sym (eqb-true _ _ parts.0), sym (eqb-true _ _ (and_parts _ _ parts.1).0))
 
-is_false : (b : Bool) → (b ≡ true → ⊥) → b ≡ false
-is_false true h = absurd (h refl)
-is_false false h = refl
-
 -- no signature stands where the first two bytes are those of none
 not_begun : (a b : ℕ) (rest bytes : List ℕ) → begin_signature a b ≡ true → begin_signature (get_or bytes 0 0) (get_or bytes 1 0) ≡ false →
     begins bytes (a ∷ b ∷ rest) ≡ false
 not_begun a b rest bytes is none =
-    is_false (begins bytes (a ∷ b ∷ rest)) (λ h.
+    false_from_ne_true (begins bytes (a ∷ b ∷ rest)) (λ h.
     let two = first_two a b rest bytes h in
     let other : begin_signature a b ≡ false = rw (two.0, two.1) at none in
     cc (is, other))

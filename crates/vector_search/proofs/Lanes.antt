@@ -38,7 +38,7 @@ pub compared : (t : ℕ → ℕ → Bool) (v w : List ℕ) (at : ℕ) (f g : ℕ
 compared t v w at f g is_v is_w = zip2_of_maps (λ a b. cond (t a b) 255 0) f g (range_with_len at 16) is_v is_w
 
 -- the same function by other words
-same_map : (f g : ℕ → ℕ) → ((place : ℕ) → f place ≡ g place) → (places : List ℕ) → map f places ≡ map g places
+same_map : {X : Type 0} (f g : ℕ → X) → ((place : ℕ) → f place ≡ g place) → (places : List ℕ) → map f places ≡ map g places
 same_map f g same [] = refl
 same_map f g same (place ∷ places) = ap (λ first. first ∷ map f places) (same place) ∙ ap (λ rest. g place ∷ rest) (same_map f g same places)
 
@@ -72,10 +72,6 @@ top_lane : (b : Bool) → top 7 (cond b 255 0) ≡ b
 top_lane true = refl
 top_lane false = refl
 
-same_tests : (p q : ℕ → Bool) → ((place : ℕ) → p place ≡ q place) → (places : List ℕ) → map p places ≡ map q places
-same_tests p q same [] = refl
-same_tests p q same (place ∷ places) = ap (λ first. first ∷ map p places) (same place) ∙ ap (λ rest. q place ∷ rest) (same_tests p q same places)
-
 -- the bits of a mask, whose test may be said by other words
 pub bits_of_mask : (v : List ℕ) (at : ℕ) (p test : ℕ → Bool) → IsMask v at p → ((place : ℕ) → p place ≡ test place) →
     mask_l (map (top 7) v) % 2 ^ 64 ≡ mask_of test at 16
@@ -83,6 +79,6 @@ unfolding mask_of
 bits_of_mask v at p test is same =
     let tops : map (top 7) v ≡ map test (range_with_len at 16) =
     ap (map (top 7)) is ∙ map-map (top 7) (λ place. cond (p place) 255 0) (range_with_len at 16)
-    ∙ same_tests _ _ (λ place. top_lane (p place) ∙ same place) (range_with_len at 16) in
+    ∙ same_map _ _ (λ place. top_lane (p place) ∙ same place) (range_with_len at 16) in
     ap (λ bits. mask_l bits % 2 ^ 64) tops
     ∙ mask_l-mod (map test (range_with_len at 16)) 64 (omega (arith, length-map-range_with_len test at 16))

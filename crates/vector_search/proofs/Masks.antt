@@ -1,7 +1,7 @@
 -- What the bits of a mask say of its places.
 use Rattle.std.proofs.Common.{◌≡◌, ◌≢◌, ◌∙◌, ℕ, suc, ◌+◌, ◌-◌, ◌*◌, ◌<◌, ◌≤◌, Bool, true, false, not, cond, List, [], ◌∷◌, map, length, bit_or, refl, sym, ap, subst, inl, inr, arith, IsTrue, nat_eq, eqb-true}
 use Rattle.std.specs.List.{range_with_len, prefix_len}
-use Rattle.std.proofs.lemmas.Bool.{cases_lt}
+use Rattle.std.proofs.lemmas.Bool.{cases_lt, not-true, not-false}
 use Rattle.std.proofs.lemmas.List.FromFn.{length-range_with_len, get_or-range_with_len}
 use Rattle.std.proofs.lemmas.List.Sums.{prefix_len_passes, prefix_len_stops, prefix_len-le-length}
 use Rattle.std.proofs.lemmas.Nat.{and_le_l, and_le_r}
@@ -15,14 +15,6 @@ use Rattle.vector_search.specs.Places.{mask_of, NoneIn, IsNext}
 pub none_further : (test : ℕ → Bool) (first middle end : ℕ) → NoneIn test first middle → NoneIn test middle end → NoneIn test first end
 none_further test first middle end ahead behind place low high =
     elim (cases_lt place middle) [ inl below ↦ ahead place low below | inr above ↦ behind place above high ]
-
-was_not : (b : Bool) → not b ≡ true → b ≡ false
-was_not true h = cc
-was_not false h = refl
-
-was : (b : Bool) → not b ≡ false → b ≡ true
-was true h = refl
-was false h = cc
 
 -- no bit is set where each place fails
 all_fail : (test : ℕ → Bool) (places : List ℕ) → prefix_len (λ place. not (test place)) places ≡ length places → mask_l (map test places) ≡ 0
@@ -43,7 +35,7 @@ module _ (test : ℕ → Bool) (at count : ℕ) where
   unfolding places fails
   front_fails few within is place low high =
       let is_place : at + (place - at) ≡ place = omega arith in
-      was_not (test place)
+      not-true (test place)
       (subst (λ p. not (test p) ≡ true)
       (get_or-range_with_len at count (place - at) 0 (omega arith) ∙ is_place)
       (prefix_len_passes fails places (place - at) 0 (omega (arith, is))))
@@ -65,7 +57,7 @@ module _ (test : ℕ → Bool) (at count : ℕ) where
       let below : first < count =
       elim (cases_lt first count) [ inl l ↦ l | inr g ↦ absurd (omega (arith, some, all_fail test places (omega (arith, is, within, long)))) ] in (
         below,
-        was (test (at + first))
+        not-false (test (at + first))
             (subst (λ p. not (test p) ≡ false)
             (get_or-range_with_len at count (prefix_len fails places) 0 (omega (arith, is)) ∙ ap (λ k. at + k) (sym is))
             (prefix_len_stops fails places 0 (omega (arith, is, long)))),

@@ -1,9 +1,9 @@
 // The search for the next place that passes a test.
 //
-// Where little passes, a step looks at four masks and branches once: it is bound by memory, at 4 to 5
-// GB/s of one processor, and at twice that in cache. Behind the last of these steps come at most a few
-// masks one by one, then fewer than `LANES` places, and those too near to the end of the bytes for a
-// mask. The worst bytes are those where each place passes: a call for each of them.
+// Where little passes, a step looks at four masks and branches once: memory is the limit, at about 5
+// GB/s of one processor, and in cache it is twice as fast. Behind these steps come masks one by one,
+// then place by place those that are too few for a mask, or too near to the end of the bytes. The worst
+// bytes are those where each place passes: a call for each of them.
 ghost use Rattle.std.specs.Prelude.{◌≡◌, ◌+◌, ◌≤◌, length, IsTrue};
 ghost use Rattle.vector_search.specs.Places.{NoneIn, IsNext};
 
