@@ -30,6 +30,7 @@ header() { printf '# triage feature file, format 1\n# file: %s\n# columns: path,
 # Begins a case of this name, with two empty folders.
 begin() {
     name=$1
+    error=
     rm -rf "$scratch/have" "$scratch/want"
     mkdir "$scratch/have" "$scratch/want"
     cd "$scratch/have" || exit 1
@@ -51,16 +52,23 @@ report() {
     printf "$3" >> "$scratch/want/$1/domain.txt"
 }
 
-# Ends a case: runs the program with these words, which must end with this status, print nothing, and leave
-# what the folder `want` has.
+# Ends a case: runs the program with these words, which must end with this status, print this text, print no
+# error but the one that the case says, and leave what the folder `want` has.
 ends() {
-    local status=$1 got=0 why=
-    shift
+    local status=$1 text=$2 got=0
+    shift 2
     "$PROGRAM" "$@" > "$scratch/stdout" 2> "$scratch/stderr" < /dev/null || got=$?
+    judge "$status" "$got" "$text"
+}
+
+# Judges a case that ran: its status, what it printed, and what stands in the folder.
+judge() {
+    local status=$1 got=$2 why=
+    : > "$scratch/diff"
     [ "$got" = "$status" ] || why="status $got, not $status"
-    [ -s "$scratch/stdout" ] && why="$why; it printed"
-    [ -s "$scratch/stderr" ] && why="$why; it printed an error"
-    diff -r "$scratch/have" "$scratch/want" > "$scratch/diff" 2>&1 || why="$why; the folder differs"
+    printf "$3" | diff - "$scratch/stdout" >> "$scratch/diff" 2>&1 || why="$why; the text differs"
+    printf "$error" | diff - "$scratch/stderr" >> "$scratch/diff" 2>&1 || why="$why; the error differs"
+    diff -r "$scratch/have" "$scratch/want" >> "$scratch/diff" 2>&1 || why="$why; the folder differs"
     if [ -z "$why" ]; then
         passed=$((passed + 1))
     else
@@ -71,6 +79,7 @@ ends() {
 }
 
 SEE='see http://example.com/a b'
+SEE_TEXT='done pages=1 features=2\nurl.txt 1\ndomain.txt 1\n'
 SEE_URL='4\thttp://example.com/a\tsee http://example.com/a b\n'
 SEE_DOMAIN='11\texample.com\tsee http://example.com/a b\n'
 
@@ -79,23 +88,23 @@ SEE_DOMAIN='11\texample.com\tsee http://example.com/a b\n'
 begin 'a scan that is done'
 both image "$SEE"
 report out "$SEE_URL" "$SEE_DOMAIN"
-ends 0 scan image out
+ends 0 "$SEE_TEXT" scan image out
 
 begin 'an empty image'
 both image ''
 report out '' ''
-ends 0 scan image out
+ends 0 'done pages=0 features=0\n' scan image out
 
 begin 'a URL in a URL, and bytes that are escaped'
 both image '\0\tHTTP://a.b/?u=http://c.d/\\\n'
 report out '2\tHTTP://a.b/?u=http://c.d/\t\\x00\\x09HTTP://a.b/?u=http://c.d/\\x5C\\x0A\n16\thttp://c.d/\t\\x00\\x09HTTP://a.b/?u=http://c.d/\\x5C\\x0A\n' \
     '9\ta.b\t\\x00\\x09HTTP://a.b/?u=http://c.d/\\x5C\n23\tc.d\t//a.b/?u=http://c.d/\\x5C\\x0A\n'
-ends 0 scan image out
+ends 0 'done pages=1 features=4\nurl.txt 2\ndomain.txt 2\n' scan image out
 
 begin 'a folder whose parents are missing'
 both image "$SEE"
 report new/deep/out "$SEE_URL" "$SEE_DOMAIN"
-ends 0 scan image new/deep/out
+ends 0 "$SEE_TEXT" scan image new/deep/out
 
 begin 'a folder that stands, with other files in it and a longer report'
 both image 'ftp://a'
@@ -105,24 +114,24 @@ mkdir out
 { header domain.txt; printf "$SEE_DOMAIN"; } > out/domain.txt
 both out/notes.txt 'kept'
 both out/spool.bin 'kept too'
-ends 0 scan image out
+ends 0 'done pages=1 features=1\nurl.txt 1\n' scan image out
 
 begin 'names with dots, blanks and a dash'
 both 'a disk..v1.raw' "$SEE"
 report '-out.d' "$SEE_URL" "$SEE_DOMAIN"
-ends 0 scan 'a disk..v1.raw' '-out.d'
+ends 0 "$SEE_TEXT" scan 'a disk..v1.raw' '-out.d'
 
 begin 'an image that is read-only'
 both image "$SEE"
 chmod 400 image
 report out "$SEE_URL" "$SEE_DOMAIN"
-ends 0 scan image out
+ends 0 "$SEE_TEXT" scan image out
 
 begin 'an image at the limit'
 head -c 1048576 /dev/zero > image
 cp image ../want/image
 report out '' ''
-ends 0 scan image out
+ends 0 'done pages=1 features=0\n' scan image out
 
 # 20,000 URLs make a report of some 1.1 MB, which is written in pieces.
 begin 'a report of more than one piece'
@@ -136,73 +145,74 @@ awk 'BEGIN {
         print 8 * i "\tftp://a\t" before "ftp://a" after
     }
 }' >> ../want/out/url.txt
-ends 0 scan image out
+ends 0 'done pages=1 features=20000\nurl.txt 20000\n' scan image out
 
 # ---- words
 
 begin 'no words'
-ends 2
+ends 2 'usage: word 0: no command\n'
 
 begin 'an unknown command'
 both image "$SEE"
-ends 2 scam image out
+ends 2 'usage: word 0: unknown command\n' scam image out
 
 begin 'a word for help'
-ends 2 --help
+ends 2 'usage: word 0: unknown command\n' --help
 
 begin 'an option that is not known'
 both image "$SEE"
-ends 2 scan -x image out
+ends 2 'usage: word 1: unknown option\n' scan -x image out
 
 begin 'a place that is missing'
 both image "$SEE"
-ends 2 scan image
+ends 2 'usage: word 2: place missing\n' scan image
 
 begin 'two hundred words'
 both image "$SEE"
-ends 2 scan $(yes image | head -n 199)
+ends 2 'usage: word 66: too many\n' scan $(yes image | head -n 199)
 
 begin 'a word that is no UTF-8'
 both image "$SEE"
-ends 2 scan image $'out\xff'
+error='usage: a word is not UTF-8\n'
+ends 2 '' scan image $'out\xff'
 
 # ---- images
 
 begin 'an image that is missing'
-ends 4 scan image out
+ends 4 'read fault: image\n' scan image out
 
 begin 'a folder as image'
 mkdir image ../want/image
-ends 4 scan image out
+ends 4 'read fault: image\n' scan image out
 
 begin 'two parts'
 both a 'http://exa'
 both b 'mple.com/a b'
-ends 15 scan a b out
+ends 15 'not yet: parts\n' scan a b out
 
 begin 'one byte above the limit'
 head -c 1048577 /dev/zero > image
 cp image ../want/image
-ends 15 scan image out
+ends 15 'not yet: size 1048577\n' scan image out
 
 begin 'an image of 3 MiB'
 head -c 3145728 /dev/zero > image
 cp image ../want/image
-ends 15 scan image out
+ends 15 'not yet: size 3145728\n' scan image out
 
 # ---- the folder and its files
 
 begin 'a folder without a name'
 both image "$SEE"
-ends 8 scan image ''
+ends 8 'disk fault\n' scan image ''
 
 begin 'a folder that is a file'
 both image "$SEE"
-ends 8 scan image image
+ends 8 'disk fault\n' scan image image
 
 begin 'a folder below a file'
 both image "$SEE"
-ends 8 scan image image/out
+ends 8 'disk fault\n' scan image image/out
 
 # A report file that is a link to TARGET: the program must end with a disk fault, and leave the other one in
 # any state.
@@ -214,12 +224,7 @@ linked() {
     local got=0
     "$PROGRAM" scan image out > "$scratch/stdout" 2> "$scratch/stderr" < /dev/null || got=$?
     rm -rf out ../want/out
-    if [ "$got" = 8 ] && [ ! -s "$scratch/stdout" ] && [ ! -s "$scratch/stderr" ] && diff -r "$scratch/have" "$scratch/want"; then
-        passed=$((passed + 1))
-    else
-        failed=$((failed + 1))
-        echo "failed: $name: status $got, not 8, or it printed, or changed the image"
-    fi
+    judge 8 "$got" 'disk fault\n'
 }
 
 # A full disk refuses the bytes; a file of the process's name takes them and can't be synced.
@@ -231,23 +236,41 @@ done
 # A process that may write no byte: the report files stand empty or not at all.
 begin 'files that may have no bytes'
 both image "$SEE"
-got=0
 (
     trap '' XFSZ
     ulimit -f 0
     exec "$PROGRAM" scan image out
-) > /dev/null 2>&1 || got=$?
+) 2>&1 < /dev/null | cat > "$scratch/stdout"
+got=${PIPESTATUS[0]}
+: > "$scratch/stderr"
 rm -rf out
-if [ "$got" = 8 ] && diff -r "$scratch/have" "$scratch/want"; then
-    passed=$((passed + 1))
-else
-    failed=$((failed + 1))
-    echo "failed: $name: status $got, not 8"
+judge 8 "$got" 'disk fault\n'
+
+# ---- standard output
+
+# Runs the program with these words and a full standard output, which must end with this status.
+ends_full() {
+    local status=$1 got=0
+    shift
+    "$PROGRAM" "$@" > /dev/full 2> "$scratch/stderr" < /dev/null || got=$?
+    : > "$scratch/stdout"
+    judge "$status" "$got" ''
+}
+
+if [ -c /dev/full ]; then
+    begin 'a text that can not be printed'
+    both image "$SEE"
+    report out "$SEE_URL" "$SEE_DOMAIN"
+    ends_full 13 scan image out
+
+    begin 'a refusal that can not be printed'
+    both image "$SEE"
+    ends_full 2 scan image
 fi
 
 # ---- memory
 
-# Under the least limit at which an empty image is done, an image of many URLs wants memory.
+# Under the least limit at which an empty image is done, an image of many URLs wants memory, and says so.
 begin 'no memory'
 : > empty
 yes 'ftp://a ' | tr -d '\n' | head -c 1048576 > image
@@ -256,12 +279,9 @@ for kib in 4096 6144 8192 12288 16384; do
     limited "$kib" empty || continue
     got=0
     limited "$kib" image || got=$?
-    if [ "$got" = 14 ] && [ ! -s "$scratch/stdout" ] && [ ! -s "$scratch/stderr" ]; then
-        passed=$((passed + 1))
-    else
-        failed=$((failed + 1))
-        echo "failed: $name: status $got, not 14, or it printed"
-    fi
+    rm -rf "$scratch/want"
+    cp -r "$scratch/have" "$scratch/want"
+    judge 14 "$got" 'no memory\n'
     break
 done
 

@@ -1,5 +1,7 @@
 pub mod Calls
 pub mod Entries
+pub mod MemSink
 pub mod MemSource
+pub mod Sink
 pub mod Source
 pub mod SureSource

@@ -1,7 +1,7 @@
 ghost use Rattle.std.specs.Prelude.{◌≡◌, ◌+◌, ◌<◌, ◌≤◌, length, take, drop, None, IsTrue, IfSome, IfOk};
 ghost use Rattle.host_source.specs.Source.{IsDetached, MayAttachAll, told};
 
-use crate::{MemSource, Source, SourceCall, SourceFault, SureSource};
+use crate::{MemSink, MemSource, Sink, SinkFault, Source, SourceCall, SourceFault, SureSource};
 use std::test::Fail;
 use std::thread::{self, Threads};
 
@@ -108,5 +108,32 @@ fn sources_can_be_handed_to_threads(rt: HostRuntime) -> Result<(), Fail> {
         &rt,
         &mut vec![in alloc; SureSource::of("a", b"b"), SureSource::of("c", b"d")]?,
     );
+    Ok(())
+}
+
+// Puts the bytes, and says how that ended.
+fn put_into<O: Sink>(sink: &mut O, bytes: &[u8]) -> Result<(), SinkFault> {
+    sink.put(bytes)
+}
+
+#[test]
+fn a_put_that_fails_leaves_half_of_its_bytes(rt: HostRuntime) -> Result<(), Fail> {
+    let mut sink = MemSink::make(rt.alloc());
+    sink.fail_put(1)?;
+    sink.fail_put(3)?;
+    let failed = Err(SinkFault::Failed);
+    let rows: [(&[u8], Result<(), SinkFault>, &[u8]); 6] = [
+        (b"ab", Ok(()), b"ab"),
+        (b"cdefg", failed, b"abcd"),
+        (b"", Ok(()), b"abcd"),
+        (b"h", failed, b"abcd"),
+        (b"h", Ok(()), b"abcdh"),
+        (b"ij\n", Ok(()), b"abcdhij\n"),
+    ];
+    for (bytes, answer, taken) in rows {
+        assert_eq!(rt; put_into(&mut sink, bytes), answer, "at {taken:?}");
+        assert_eq!(rt; sink.bytes(), taken);
+    }
+    assert_eq!(rt; sink.puts(), [2, 5, 0, 1, 1, 3].as_slice());
     Ok(())
 }

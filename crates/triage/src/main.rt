@@ -1,11 +1,13 @@
-//! The program `triage`. `main` makes a source over real files and a disk over a real folder, calls
-//! `triage_run::triage`, and ends with the number of its status. Nothing is printed.
+//! The program `triage`. `main` makes a source over real files, a disk over a real folder and a sink over
+//! standard output, calls `triage_run::triage`, and ends with the number of its status. What the call puts
+//! is printed. Standard error has a line where a word is not UTF-8, and nothing else.
 #![tactic(auto)]
 
 ghost use Rattle.std.specs.Prelude.{◌<◌, ◌^◌, length, vec_len, IfOk};
 
 mod file_source;
 mod folder_disk;
+mod stdout_sink;
 #[cfg(test)]
 mod tests;
 
@@ -14,6 +16,7 @@ use file_source::FileSource;
 use folder_disk::FolderDisk;
 use std::process::ExitCode;
 use std::{env, io};
+use stdout_sink::StdoutSink;
 use triage_run::{Status, triage};
 
 // The exit status where a word is no text, or where there are more words than can be numbered.
@@ -39,7 +42,11 @@ fn words_of(rt: &HostRuntime) -> Result<Vec<String>, u8>
         Err(error) if error.kind() == io::ErrorKind::OutOfMemory => {
             return Err(Status::NoMemory.number());
         }
-        Err(_) => return Err(BAD_WORDS),
+        // The arguments are had all together or not at all, so the word is not numbered.
+        Err(_) => {
+            let _ = eprintln!(rt; "usage: a word is not UTF-8");
+            return Err(BAD_WORDS);
+        }
     };
     let mut words = Vec::new(rt.alloc());
     for word in args.skip(1) {
@@ -71,5 +78,6 @@ fn outcome_of(rt: &HostRuntime, words: &[String]) -> Result<Status, NoMemory>
     let mut sources = Vec::new(alloc);
     sources.push(FileSource::make(alloc, rt.clone()?))?;
     let disk = FolderDisk::make(alloc, rt.clone()?);
-    Ok(triage(alloc, words, sources, disk).status)
+    let sink = StdoutSink::make(rt.stdout());
+    Ok(triage(alloc, words, sources, disk, sink).status)
 }

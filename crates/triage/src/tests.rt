@@ -2,9 +2,12 @@ ghost use Rattle.std.specs.Prelude.{◌≡◌, IsTrue, None};
 
 use crate::file_source::{FileSource, read_part};
 use crate::folder_disk::FolderDisk;
+use crate::stdout_sink::StdoutSink;
 use host_disk::{Disk, DiskFault};
-use host_source::{Source, SourceFault};
+use host_source::{Sink, SinkFault, Source, SourceFault};
+use std::fmt::Display;
 use std::fs::File;
+use std::io::Print;
 use std::test::Fail;
 use std::{fs, io};
 
@@ -64,5 +67,38 @@ fn a_file_of_a_folder_is_written_read_and_cut(rt: HostRuntime) -> Result<(), Fai
     assert_eq!(rt; text.as_str(), "abXY");
     assert!(rt; disk.read_at(1, 2, &mut into).is_err());
     assert_eq!(rt; disk.write_at(10, 0, b"no name"), Err(DiskFault::Failed));
+    Ok(())
+}
+
+// A printer that prints nothing, and fails.
+#[derive(Drop)]
+struct FullPrinter;
+
+impl Print for FullPrinter {
+    fn print<D: Display + Drop>(&self, _: D) -> io::Result<()> {
+        Err(io::Error::from(io::ErrorKind::StorageFull))
+    }
+
+    fn println<D: Display + Drop>(&self, _: D) -> io::Result<()> {
+        Err(io::Error::from(io::ErrorKind::StorageFull))
+    }
+
+    fn write_all(&self, _: &[u8]) -> io::Result<()> {
+        Err(io::Error::from(io::ErrorKind::StorageFull))
+    }
+}
+
+// Puts the bytes, and says how that ended.
+fn put_into<O: Sink>(sink: &mut O, bytes: &[u8]) -> Result<(), SinkFault> {
+    sink.put(bytes)
+}
+
+#[test]
+fn what_is_put_is_printed_or_a_fault(rt: HostRuntime) -> Result<(), Fail> {
+    let mut sink = StdoutSink::make(rt.stdout());
+    assert_eq!(rt; put_into(&mut sink, b"done pages=0 features=0\n"), Ok(()));
+    let mut sink = StdoutSink::make(FullPrinter);
+    let failed = Err(SinkFault::Failed);
+    assert_eq!(rt; put_into(&mut sink, b"done pages=0 features=0\n"), failed);
     Ok(())
 }

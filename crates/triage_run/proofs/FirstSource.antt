@@ -1,19 +1,20 @@
 -- From one source to the list whose first it is: what one source and its disk bear, all of them bear.
-use Rattle.std.proofs.Common.{◌≡◌, inl, inr, ⊎_elim, ℕ, suc, ◌<◌, List, [], ◌∷◌, length, refl, subst, arith, Option, Result, Ok, Err}
+use Rattle.std.proofs.Common.{◌≡◌, inl, inr, ⊎_elim, ℕ, suc, ◌<◌, List, [], ◌∷◌, length, refl, subst, arith, Option, Result, Ok, Err, IfErr, OnOk}
 use Rattle.std.specs.List.{All, AllByRecursion}
 use Rattle.std.specs.Prelude.{slice_index_or, slice_set}
 use Rattle.host_source.specs.Source.{SourceNature, Slot}
 use Rattle.host_disk.specs.Files.{Files}
 use Rattle.host_disk.specs.Disk.{DiskNature}
 use Rattle.triage_run.specs.declared.status.Status.{Status}
-use Rattle.triage_run.specs.declared.status.Status.TheVariants.{Done, Usage, ReadFault, DiskFault, NoMemory, NotYet}
+use Rattle.triage_run.specs.declared.status.Status.TheVariants.{Done, Usage, ReadFault, DiskFault, OutFault, NoMemory, NotYet}
 use Rattle.triage_run.specs.declared.status.ReadPlace.TheVariants.{Image, Page}
 use Rattle.triage_run.specs.declared.status.Unbuilt.TheVariants.{Parts, Size}
 use Rattle.triage_run.specs.declared.words.BadWord.{BadWord}
-use Rattle.triage_run.specs.Call.{Call, call_of, IsOnePart, IsCause, IsExact, IsComplete, HasParts, Answers}
+use Rattle.triage_run.specs.Call.{Call, call_of, and_sink, IsOnePart, IsCause, IsExact, IsComplete, HasParts, IsPrinted, Answers}
 use Rattle.triage_run.specs.Sources.{Pairwise}
-use Rattle.triage_run.specs.Status.{IfDone}
+use Rattle.triage_run.specs.Status.{IfDone, IsRefusal, EndsAs, scanned_as}
 use Rattle.triage_run.specs.Words.{ScanWords}
+use Rattle.triage_run.proofs.AfterText.{not_done}
 
 all_same : {A : Type 0} (R : A → A → Type 0) → ((x : A) → R x x) → (xs : List A) → Pairwise R xs xs
 all_same R same [] = tt
@@ -25,11 +26,13 @@ pub first_changed : {A : Type 0} (R : A → A → Type 0) → ((x : A) → R x x
 first_changed R same [] x y some is r = absurd (omega (arith, some))
 first_changed R same (z ∷ xs) x y some is r = (subst (λ w. R w y) is r, all_same R same xs)
 
--- the same where the call was done, beside what holds of the disk
-pub done_changed : {A : Type 0} (Q : Type 0) (R : A → A → Type 0) → ((x : A) → R x x) → (xs : List A) (x y : A) → 0 < length xs →
-    x ≡ slice_index_or xs 0 x → (status : Status) → IfDone status (R x y × Q) → IfDone status (Pairwise R xs (slice_set xs 0 y) × Q)
-done_changed Q R same xs x y some is Done h = (first_changed R same xs x y some is h.0, h.1)
-done_changed Q R same xs x y some is _ h = tt
+-- the same where the call was done, beside what holds of the disk and of the sink
+pub done_changed : {A T : Type 0} (Q W : Type 0) (R : A → A → Type 0) → ((x : A) → R x x) → (xs : List A) (x y : A) → 0 < length xs →
+    x ≡ slice_index_or xs 0 x → (rose : Type 0) (scanned : Result T Status) (status : Status) → IfErr scanned IsRefusal →
+    EndsAs rose (scanned_as scanned) status → OnOk scanned (R x y × Q) → IfDone status W → IfDone status (Pairwise R xs (slice_set xs 0 y) × Q × W)
+done_changed Q W R same xs x y some is rose (Ok found) Done refused ends h w = (first_changed R same xs x y some is h.0, h.1, w)
+done_changed Q W R same xs x y some is rose (Err refusal) Done refused ends h w = absurd (not_done rose refusal Done refused ends)
+done_changed Q W R same xs x y some is rose scanned _ refused ends h w = tt
 
 all_hold : {A : Type 0} (P Q : A → Type 0) → ((x : A) → P x → Q x) → (xs : List A) → All P xs → AllByRecursion Q xs
 all_hold P Q gives [] all = tt
@@ -52,24 +55,26 @@ cause_among call Q among (Usage word why) cause = cause
 cause_among call Q among (ReadFault Image) cause = among cause
 cause_among call Q among (ReadFault (Page page)) cause = (among cause.0, cause.1)
 cause_among call Q among DiskFault cause = cause
+cause_among call Q among OutFault cause = cause
 cause_among call Q among (NotYet Parts) cause = cause
 cause_among call Q among (NotYet (Size bytes)) cause = record { one = cause.one; size = cause.size; large = cause.large }
 
 -- an answer with its cause is complete
 complete_of_cause : (call : Call) (status : Status) → IsCause call status → IsComplete call status
-complete_of_cause call Done cause one small source disk = inl refl
-complete_of_cause call NoMemory cause one small source disk = inr refl
-complete_of_cause call (Usage word why) cause one small source disk =
+complete_of_cause call Done cause one small source disk sink = inl refl
+complete_of_cause call NoMemory cause one small source disk sink = inr refl
+complete_of_cause call (Usage word why) cause one small source disk sink =
     absurd (subst (λ (command : Result ScanWords BadWord). IsOnePart (record call { command = command })) cause one)
-complete_of_cause call (ReadFault Image) cause one small source disk = absurd (source cause)
-complete_of_cause call (ReadFault (Page page)) cause one small source disk = absurd (source cause.0)
-complete_of_cause call DiskFault cause one small source disk = absurd (disk cause)
-complete_of_cause call (NotYet Parts) cause one small source disk = absurd (both call.command one cause)
+complete_of_cause call (ReadFault Image) cause one small source disk sink = absurd (source cause)
+complete_of_cause call (ReadFault (Page page)) cause one small source disk sink = absurd (source cause.0)
+complete_of_cause call DiskFault cause one small source disk sink = absurd (disk cause)
+complete_of_cause call OutFault cause one small source disk sink = absurd (sink cause.0)
+complete_of_cause call (NotYet Parts) cause one small source disk sink = absurd (both call.command one cause)
   where
     both : (command : Result ScanWords BadWord) → IsOnePart (record call { command = command }) → IsCause (record call { command = command }) (NotYet Parts) → ⊥
     both (Ok scan) one many = omega (arith, one, many)
     both (Err bad) one many = one
-complete_of_cause call (NotYet (Size bytes)) cause one small source disk = absurd (omega (arith, small bytes cause.size, cause.large))
+complete_of_cause call (NotYet (Size bytes)) cause one small source disk sink = absurd (omega (arith, small bytes cause.size, cause.large))
 
 exact_among : (call : Call) (Q : Type 0) (status : Status) → IsExact call status → IsExact (record call { source_rose = Q }) status
 exact_among call Q status exact = record {
@@ -78,17 +83,18 @@ exact_among call Q status exact = record {
   size = λ bytes large. exact.size bytes (record { one = large.one; size = large.size; large = large.large });
 }
 
-module _ {S D : Type 0} (nature : S → SourceNature) (slots : S → ℕ → Option Slot) (faults : S → ℕ) (disk_nature : D → DiskNature) (files : D → Files) (disk_faults : D → ℕ)
-    (command : Result ScanWords BadWord) (disk disk_left : D) (status : Status) where
+module _ {S D O : Type 0} (nature : S → SourceNature) (slots : S → ℕ → Option Slot) (faults : S → ℕ) (disk_nature : D → DiskNature) (files : D → Files) (disk_faults : D → ℕ)
+    (taken : O → Option (List ℕ)) (sink_faults : O → ℕ) (command : Result ScanWords BadWord) (disk disk_left : D) (sink sink_left : O) (status : Status) where
   abbrev call : List S → List S → Call
-  call sources left = call_of nature slots faults disk_nature files disk_faults command sources left disk disk_left
+  call sources left = and_sink taken sink_faults sink sink_left (call_of nature slots faults disk_nature files disk_faults command sources left disk disk_left)
 
   -- what is borne by the first source is borne by all of them
   pub answers_of_first : (xs : List S) (x y : S) → 0 < length xs → x ≡ slice_index_or xs 0 x →
       IsCause (call (x ∷ []) (y ∷ [])) status → IsExact (call (x ∷ []) (y ∷ [])) status → HasParts (call (x ∷ []) (y ∷ [])) status →
+      IsPrinted (call (x ∷ []) (y ∷ [])) status →
       Answers (call xs (slice_set xs 0 y)) status
-  answers_of_first [] x y some is cause exact parts = absurd (omega (arith, some))
-  answers_of_first (z ∷ xs) x y some is cause exact parts =
+  answers_of_first [] x y some is cause exact parts printed = absurd (omega (arith, some))
+  answers_of_first (z ∷ xs) x y some is cause exact parts printed =
       let one = subst (λ (w : S). IsCause (call (w ∷ []) (y ∷ [])) status) is cause in
       let all = cause_among (call (z ∷ []) (y ∷ [])) (call (z ∷ xs) (y ∷ xs)).source_rose (⊎_elim (λ r. inl r) (λ none. absurd none)) status one in
       record {
@@ -96,4 +102,5 @@ module _ {S D : Type 0} (nature : S → SourceNature) (slots : S → ℕ → Opt
         exact = exact_among (call (z ∷ []) (y ∷ [])) (call (z ∷ xs) (y ∷ xs)).source_rose status (subst (λ (w : S). IsExact (call (w ∷ []) (y ∷ [])) status) is exact);
         complete = complete_of_cause (call (z ∷ xs) (y ∷ xs)) status all;
         parts = parts;
+        printed = subst (λ (w : S). IsPrinted (call (w ∷ []) (y ∷ [])) status) is printed;
       }

@@ -1,4 +1,6 @@
+pub mod AfterText
 pub mod FirstSource
 pub mod OnePart
 mod ReportRows
+mod TextRows
 pub mod WholeReport

@@ -1,6 +1,7 @@
 -- What a scan finds and writes is the report of its image: there are no lists.
-use Rattle.std.proofs.Common.{◌≡◌, ◌∙◌, ℕ, ◌==◌, ◌&&◌, not, Bool, false, List, [], ◌∷◌, filter, length, map, true, IsTrue, Some, Result, Ok, Err, IfOk, OnOk, subst, ap, sym, refl}
+use Rattle.std.proofs.Common.{◌≡◌, ◌∙◌, ℕ, ◌==◌, ◌&&◌, not, Bool, false, List, [], ◌∷◌, filter, length, map, true, IsTrue, Some, Result, Ok, Err, IfOk, ap, sym, refl}
 use Rattle.std.specs.List.{list_all, AllByRecursion}
+use Rattle.std.specs.Int.{div_ceil}
 use Rattle.std.proofs.lemmas.Bool.{and_parts}
 use Rattle.forensic_path.specs.declared.feature.Class.TheVariants.{Plain}
 use Rattle.forensic_path.specs.declared.feature.Feature.{Feature}
@@ -15,7 +16,8 @@ use Rattle.feature_file.specs.FeatureFile.{file_text}
 use Rattle.report_publish.specs.Publish.{AreWritten}
 use Rattle.report_publish.specs.declared.publish.TheConstants.{FILES_BUILT}
 use Rattle.triage_run.specs.Case.{plan_built, classed_of, report, case_of, no_match, AreReport, LeavesReport}
-use Rattle.triage_run.specs.declared.plan.TheConstants.{SCANNERS_BUILT}
+use Rattle.triage_run.specs.declared.plan.TheConstants.{PAGE_BYTES, SCANNERS_BUILT}
+use Rattle.triage_run.specs.Text.{Counts, counts_of, file_lines}
 
 -- the features of a buffer that is the whole image, each with its class
 pub all_classed : (image bytes : List ℕ) (base from count : ℕ) (features : List Feature) →
@@ -59,16 +61,16 @@ are_report image items files (number ∷ numbers) features is written =
     (rw (text_of image number parts.0) (here.0 ∙ ap (file_text number) is), are_report image items files numbers parts.1 is here.1)
 
 -- files with the texts of these items are the report
-leaves_report : (image : List ℕ) (tells : Bool) (items : List Classed) (files : Files) →
+pub leaves_report : (image : List ℕ) (tells : Bool) (items : List Classed) (files : Files) →
     items ≡ classed_by [] [] (features_of [] plan_built image) → (IsTrue tells → AreWritten SCANNERS_BUILT items files) →
     LeavesReport (Some image) tells files
 unfolding report_files
 leaves_report image tells items files is written = λ told. are_report image items files FILES_BUILT refl is (written told)
 
--- the same of files that were written where all went well
-pub report_left : {T E : Type 0} (answer : Result T E) (image : List ℕ) (tells : Bool) (scanners : ℕ) (items : List Classed) (files : Files) →
-    scanners ≡ SCANNERS_BUILT → items ≡ classed_by [] [] (features_of [] plan_built image) →
-    (IsTrue tells → OnOk answer (AreWritten scanners items files)) → OnOk answer (LeavesReport (Some image) tells files)
-report_left (Ok done) image tells scanners items files built is written =
-    leaves_report image tells items files is (subst (λ s. IsTrue tells → AreWritten s items files) built written)
-report_left (Err fault) image tells scanners items files built is written = tt
+-- counts of these items are those of the image
+pub counts_found : (image : List ℕ) (items : List Classed) (found : Counts) →
+    items ≡ classed_by [] [] (features_of [] plan_built image) → found.pages ≡ div_ceil (length image) PAGE_BYTES →
+    found.features ≡ length items → found.files ≡ map (file_lines items) FILES_BUILT →
+    found ≡ counts_of no_match FILES_BUILT (case_of image)
+unfolding classed_of
+counts_found image items found is pages features files = rw (← is, ← pages, ← features, ← files) refl

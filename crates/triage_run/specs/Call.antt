@@ -1,24 +1,28 @@
 -- What a call saw and left, and which answers this bears.
-use Rattle.std.specs.Prelude.{◌≡◌, ℕ, ◌*◌, ◌<◌, ◌≤◌, Bool, List, [], ◌∷◌, length, Option, IsSomeAnd, MatchOption, Result, Err, IsOk, IsOkAnd, IfOk, IfErr}
+use Rattle.std.specs.Prelude.{◌≡◌, ℕ, ◌*◌, ◌<◌, ◌≤◌, Bool, List, [], ◌∷◌, length, Option, option_map, IfSome, IsSomeAnd, MatchOption, Result, Err, IsOk, IsOkAnd, IfOk, IfErr}
 use Rattle.byte_kit.specs.Counts.{Rose}
 use Rattle.host_source.specs.Source.{SourceNature, Slot}
+use Rattle.host_source.specs.Sink.{Takes}
 use Rattle.host_disk.specs.Files.{Files}
 use Rattle.host_disk.specs.Disk.{DiskNature}
 use Rattle.triage_run.specs.declared.scan.TheConstants.{IMAGE_MOST}
 use Rattle.triage_run.specs.declared.plan.TheConstants.{PAGE_BYTES}
 use Rattle.triage_run.specs.declared.status.Status.{Status}
-use Rattle.triage_run.specs.declared.status.Status.TheVariants.{Done, Usage, ReadFault, DiskFault, NoMemory, NotYet}
+use Rattle.triage_run.specs.declared.status.Status.TheVariants.{Done, Usage, ReadFault, DiskFault, OutFault, NoMemory, NotYet}
 use Rattle.triage_run.specs.declared.status.ReadPlace.TheVariants.{Image, Page}
 use Rattle.triage_run.specs.declared.status.Unbuilt.TheVariants.{Parts, Size}
 use Rattle.triage_run.specs.declared.words.BadWord.{BadWord}
-use Rattle.triage_run.specs.Case.{LeavesReport}
+use Rattle.report_publish.specs.declared.publish.TheConstants.{FILES_BUILT}
+use Rattle.triage_run.specs.Case.{case_of, no_match, LeavesReport}
 use Rattle.triage_run.specs.Sources.{SourceRose, image_told, first_slots, AreAttached}
 use Rattle.triage_run.specs.Steps.{attach}
 use Rattle.triage_run.specs.Status.{IsOrEarlier, IsBehind, IsDoneOrNoMemory}
+use Rattle.triage_run.specs.Text.{counts_of, counts_text, text_of, IsPut}
 use Rattle.triage_run.specs.Words.{ScanWords}
 
 -- What a call saw: the command or the first bad word, the bytes of the image where they are told, what
--- the first source has attached at the end, whether a count of faults rose; and the files that it left
+-- the first source has attached at the end, whether a count of faults rose; the files that it left, and
+-- whether just these bytes were put, as far as the sink tells that
 pub record Call : Type 1 where
   pub command : Result ScanWords BadWord
   pub image : Option (List ℕ)
@@ -27,8 +31,10 @@ pub record Call : Type 1 where
   pub disk_rose : Type 0
   pub tells : Bool
   pub files : Files
+  pub sink_rose : Type 0
+  pub takes : List ℕ → Type 0
 
--- the call of a command over these sources and this disk, which left those
+-- the call of a command over these sources and this disk, which left those, ahead of its text
 abbrev pub call_of : {S D : Type 0} → (S → SourceNature) → (S → ℕ → Option Slot) → (S → ℕ) → (D → DiskNature) → (D → Files) → (D → ℕ)
     → Result ScanWords BadWord → List S → List S → D → D → Call
 call_of nature slots faults disk_nature files disk_faults command sources left disk disk_left = record {
@@ -39,6 +45,8 @@ call_of nature slots faults disk_nature files disk_faults command sources left d
   disk_rose = Rose (disk_faults disk) (disk_faults disk_left);
   tells = (disk_nature disk).tells;
   files = files disk_left;
+  sink_rose = ⊥;
+  takes = λ bytes. bytes ≡ [];
 }
 
 -- the call of a command over one source
@@ -46,6 +54,13 @@ abbrev pub call_over : {S D : Type 0} → (S → SourceNature) → (S → ℕ �
     → Result ScanWords BadWord → S → S → D → D → Call
 call_over nature slots faults disk_nature files disk_faults command source left disk disk_left =
     call_of nature slots faults disk_nature files disk_faults command (source ∷ []) (left ∷ []) disk disk_left
+
+-- the call with its text, which went to this sink and left that
+abbrev pub and_sink : {O : Type 0} → (O → Option (List ℕ)) → (O → ℕ) → O → O → Call → Call
+and_sink taken sink_faults sink sink_left call = record call {
+  sink_rose = Rose (sink_faults sink) (sink_faults sink_left);
+  takes = λ bytes. Takes (taken sink) (taken sink_left) bytes;
+}
 
 -- ---- the words and the image of a call
 
@@ -80,6 +95,7 @@ IsCause call (ReadFault Image) = call.source_rose
 IsCause call (NotYet (Size bytes)) = IsTooLarge call bytes
 IsCause call DiskFault = call.disk_rose
 IsCause call (ReadFault (Page page)) = call.source_rose × HasPage call page
+IsCause call OutFault = call.sink_rose × IsOk call.command × LeavesReport call.image call.tells call.files
 IsCause call NoMemory = Unit {0}
 
 -- a bad word and a form that isn't built are refused, unless an earlier refusal hides that
@@ -92,11 +108,19 @@ pub record IsExact (call : Call) (status : Status) : Type 0 where
 abbrev pub IsComplete : Call → Status → Type 0
 IsComplete call status =
     IsOnePart call → ((bytes : ℕ) → IsImageSize call bytes → bytes ≤ IMAGE_MOST)
-    → ¬ call.source_rose → ¬ call.disk_rose → IsDoneOrNoMemory status
+    → ¬ call.source_rose → ¬ call.disk_rose → ¬ call.sink_rose → IsDoneOrNoMemory status
 
 -- behind the attach each part has its slot, in order
 abbrev pub HasParts : Call → Status → Type 0
 HasParts call status = IsBehind attach status → IfOk call.command (λ scan. AreAttached call.slots 0 scan.parts)
+
+-- the text of what is found in an image
+abbrev pub found_text : List ℕ → List ℕ
+found_text image = counts_text (counts_of no_match FILES_BUILT (case_of image))
+
+-- the text of the status was put, as far as the image and the bytes put are told
+abbrev pub IsPrinted : Call → Status → Type 0
+IsPrinted call status = IfSome (text_of (option_map found_text call.image) status) (IsPut call.takes call.sink_rose status)
 
 -- what a call answers is borne by what it saw and left
 pub record Answers (call : Call) (status : Status) : Type 0 where
@@ -104,3 +128,4 @@ pub record Answers (call : Call) (status : Status) : Type 0 where
   pub exact : IsExact call status
   pub complete : IsComplete call status
   pub parts : HasParts call status
+  pub printed : IsPrinted call status

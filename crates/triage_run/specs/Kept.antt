@@ -1,6 +1,7 @@
 -- What a call leaves as it was.
-use Rattle.std.specs.Prelude.{◌≡◌, ℕ, ◌≤◌, false, IsTrue}
+use Rattle.std.specs.Prelude.{◌≡◌, ℕ, ◌≤◌, List, Option, false, IsTrue}
 use Rattle.host_source.specs.Source.{SourceNature}
+use Rattle.host_source.specs.Sink.{Takes}
 use Rattle.host_disk.specs.Files.{Files}
 use Rattle.host_disk.specs.Disk.{DiskNature}
 use Rattle.report_publish.specs.Publish.{is_for}
@@ -14,6 +15,11 @@ pub record KeepsSource {S : Type 0} (nature : S → SourceNature) (faults : S �
 -- a disk is of the same kind, and its count of faults is no lower
 pub record KeepsDisk {D : Type 0} (nature : D → DiskNature) (faults : D → ℕ) (old new : D) : Type 0 where
   pub same : nature new ≡ nature old
+  pub later : faults old ≤ faults new
+
+-- a sink has what it had with something put behind it, as far as it tells that, and its count of faults is no lower
+pub record KeepsSink {O : Type 0} (taken : O → Option (List ℕ)) (faults : O → ℕ) (old new : O) : Type 0 where
+  pub behind : (bytes : List ℕ) × Takes (taken old) (taken new) bytes
   pub later : faults old ≤ faults new
 
 -- no file differs but those of the report, as far as the disk tells its files

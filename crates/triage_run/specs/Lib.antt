@@ -2,6 +2,7 @@ pub mod Words
 pub mod Steps
 pub mod Status
 pub mod Case
+pub mod Text
 pub mod Sources
 pub mod Kept
 pub mod Call

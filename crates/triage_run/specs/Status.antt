@@ -1,10 +1,10 @@
 -- A status by its number and by the step of a scan at which it comes, and facts by its case.
-use Rattle.std.specs.Prelude.{◌≡◌, ◌⊎◌, ℕ, ◌<◌}
+use Rattle.std.specs.Prelude.{◌≡◌, ◌⊎◌, ℕ, ◌<◌, Result, Ok, Err}
 use Rattle.triage_run.specs.declared.status.Status.{Status}
-use Rattle.triage_run.specs.declared.status.Status.TheVariants.{Done, Usage, ReadFault, DiskFault, NoMemory, NotYet}
+use Rattle.triage_run.specs.declared.status.Status.TheVariants.{Done, Usage, ReadFault, DiskFault, OutFault, NoMemory, NotYet}
 use Rattle.triage_run.specs.declared.status.ReadPlace.TheVariants.{Image, Page}
 use Rattle.triage_run.specs.declared.status.Unbuilt.TheVariants.{Parts, Size}
-use Rattle.triage_run.specs.Steps.{any, words, parts, attach, size, mount, read, end}
+use Rattle.triage_run.specs.Steps.{any, words, parts, attach, size, mount, read, print, end}
 
 -- the exit status
 abbrev pub number_of : Status → ℕ
@@ -12,6 +12,7 @@ number_of Done = 0
 number_of (Usage word why) = 2
 number_of (ReadFault place) = 4
 number_of DiskFault = 8
+number_of OutFault = 13
 number_of NoMemory = 14
 number_of (NotYet what) = 15
 
@@ -24,6 +25,7 @@ step_of (ReadFault Image) = attach
 step_of (NotYet (Size bytes)) = size
 step_of DiskFault = mount
 step_of (ReadFault (Page page)) = read
+step_of OutFault = print
 step_of Done = end
 
 -- the call ended so, or at an earlier step, whose refusal hides this one
@@ -47,6 +49,22 @@ IfDone _ P = Unit {0}
 abbrev pub IfReadFault : Status → Type 0 → Type 0
 IfReadFault (ReadFault place) P = P
 IfReadFault _ P = Unit {0}
+
+-- a status that is answered ahead of the text
+abbrev pub IsRefusal : Status → Type 0
+IsRefusal Done = ⊥
+IsRefusal OutFault = ⊥
+IsRefusal _ = Unit {0}
+
+-- the status of a scan ahead of its text: done, or its refusal
+abbrev pub scanned_as : {T : Type 0} → Result T Status → Status
+scanned_as (Ok found) = Done
+scanned_as (Err refusal) = refusal
+
+-- a call whose scan ended so ended so too; or the scan was done, and its text wanted memory or met a sink whose count rose
+abbrev pub EndsAs : Type 0 → Status → Status → Type 0
+EndsAs sink_rose scanned status =
+    (status ≡ scanned) ⊎ ((scanned ≡ Done) × ((status ≡ NoMemory) ⊎ ((status ≡ OutFault) × sink_rose)))
 
 abbrev pub IsDoneOrNoMemory : Status → Type 0
 IsDoneOrNoMemory status = (status ≡ Done) ⊎ (status ≡ NoMemory)

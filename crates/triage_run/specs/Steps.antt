@@ -29,6 +29,10 @@ mount = 5
 abbrev pub read : ℕ
 read = 6
 
--- the report stands
+-- the report stands, and its text is put
+abbrev pub print : ℕ
+print = 7
+
+-- the text was put
 abbrev pub end : ℕ
-end = 7
+end = 8

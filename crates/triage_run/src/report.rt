@@ -3,10 +3,13 @@ ghost use Rattle.std.specs.Prelude.{◌≡◌, ◌<◌, ◌^◌, [], length, map
 ghost use Rattle.scan_set.specs.Here.{features_of};
 ghost use Rattle.stop_lists.specs.Lists.{classed_by};
 ghost use Rattle.report_publish.specs.Faults.{HasPublishCause};
-ghost use Rattle.triage_run.specs.Case.{plan_built, LeavesReport};
+ghost use Rattle.report_publish.specs.declared.publish.TheConstants.{FILES_BUILT};
+ghost use Rattle.triage_run.specs.Case.{case_of, no_match, plan_built, LeavesReport};
 ghost use Rattle.triage_run.specs.Kept.{KeepsOthers};
+ghost use Rattle.triage_run.specs.Text.{counts_of};
 
 use crate::plan::plan_built;
+use crate::summary::Summary;
 use byte_kit::NoMemory;
 use forensic_path::{Class, Classed, Feature};
 use host_disk::Disk;
@@ -15,13 +18,18 @@ use sbuf_nest::Sbuf;
 use scan_set::{ScanPlan, Tools, scan_owned};
 use std::alloc::Global;
 
-/// Writes the report of an image to a mounted disk.
-pub fn write_report<D: Disk>(alloc: Global, image: &[u8], disk: &mut D) -> Result<(), PublishFault>
+/// Writes the report of an image to a mounted disk, and gives what was found.
+pub fn write_report<D: Disk>(
+    alloc: Global,
+    image: &[u8],
+    disk: &mut D,
+) -> Result<Summary, PublishFault>
     requires open { D.mounted disk.old ≡ true }
     requires small { length image.now < 2 ^ 63 }
     ensures same { D.nature disk.new ≡ D.nature disk.old }
     ensures stays { D.mounted disk.new ≡ true }
     ensures report { OnOk result (LeavesReport (Some image.now) (D.nature disk.old).tells (D.files disk.new)) }
+    ensures found { IfOk result (λ found. found ≡ counts_of no_match FILES_BUILT (case_of image.now)) }
     ensures others { KeepsOthers (D.nature disk.old) (D.files disk.old) (D.files disk.new) }
     ensures cause { HasPublishCause (D.faults disk.old) (D.faults disk.new) result }
 {
@@ -29,7 +37,10 @@ pub fn write_report<D: Disk>(alloc: Global, image: &[u8], disk: &mut D) -> Resul
     let Ok(items) = items_in(alloc, image, &plan) else {
         return Err(PublishFault::NoMemory);
     };
-    publish_items(alloc, disk, items.as_slice(), plan.scanners)
+    let items = items.as_slice();
+    publish_items(alloc, disk, items, plan.scanners)?;
+    let found = Summary::count(alloc, image.len() as u64, items)?;
+    Ok(found)
 }
 
 // The features of an image, each with its class. Its one refusal is want of memory.

@@ -13,6 +13,8 @@ pub enum Status {
     ReadFault { place: ReadPlace },
     /// The disk failed.
     DiskFault,
+    /// The report stands, and the sink failed to take its text.
+    OutFault,
     /// The allocator had no room.
     NoMemory,
     /// The input has a form that isn't built yet.
@@ -64,6 +66,7 @@ impl Status {
             Status::Usage { .. } => 2,
             Status::ReadFault { .. } => 4,
             Status::DiskFault => 8,
+            Status::OutFault => 13,
             Status::NoMemory => 14,
             Status::NotYet { .. } => 15,
         }

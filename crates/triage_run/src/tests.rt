@@ -6,7 +6,7 @@ ghost use Rattle.host_disk.specs.MemDisk.{mem_mounted};
 use crate::{Outcome, PLACES_MOST, ReadPlace, Status, Unbuilt, Why, triage};
 use byte_kit::NoMemory;
 use host_disk::{DiskCall, MemDisk, SureDisk};
-use host_source::{MemSource, SourceCall};
+use host_source::{MemSink, MemSource, SourceCall};
 use report_publish::FILES_BUILT;
 use std::alloc::Global;
 use std::test::Fail;
@@ -34,29 +34,47 @@ fn texts(alloc: Global, words: &[&str]) -> Result<Vec<String>, NoMemory>
     Ok(texts)
 }
 
-// A call over a source and a disk in memory.
+// How a call over objects in memory ends.
+type MemOutcome = Outcome<MemSource, MemDisk, MemSink>;
+
+// A call over a source, a disk and a sink in memory.
 fn call(
     alloc: Global,
     words: &[&str],
     source: MemSource,
     disk: MemDisk,
-) -> Result<Outcome<MemSource, MemDisk>, NoMemory>
+    sink: MemSink,
+) -> Result<MemOutcome, NoMemory>
     requires detached { IsDetached (mem_slots source) }
     requires unmounted { mem_mounted disk ≡ false }
 {
     let words = texts(alloc, words)?;
     let mut sources = Vec::new(alloc);
     sources.push(source)?;
-    Ok(triage(alloc, words.as_slice(), sources, disk))
+    Ok(triage(alloc, words.as_slice(), sources, disk, sink))
 }
 
-// A scan of the image `i` into `o`, in which these calls of the source and of the disk fail.
-fn scan(
+// A call over objects that hold nothing.
+fn call_over_nothing(alloc: Global, words: &[&str]) -> Result<MemOutcome, NoMemory> {
+    let disk = MemDisk::make(alloc);
+    call(
+        alloc,
+        words,
+        MemSource::make(alloc),
+        disk,
+        MemSink::make(alloc),
+    )
+}
+
+// A scan of the image `i` into `o`, in which these calls of the source and of the disk fail, and the put
+// of the text where that is wanted.
+fn scan_failing(
     alloc: Global,
     image: &[u8],
     source_fails: &[u64],
     disk_fails: &[u64],
-) -> Result<Outcome<MemSource, MemDisk>, NoMemory>
+    put_fails: bool,
+) -> Result<MemOutcome, NoMemory>
     requires { length image.now < 2 ^ 57 }
 {
     let mut source = MemSource::make(alloc);
@@ -64,7 +82,23 @@ fn scan(
     source.fail_calls(source_fails)?;
     let mut disk = MemDisk::make(alloc);
     disk.fail_calls(disk_fails)?;
-    call(alloc, &["scan", "i", "o"], source, disk)
+    let mut sink = MemSink::make(alloc);
+    if put_fails {
+        sink.fail_put(0)?;
+    }
+    call(alloc, &["scan", "i", "o"], source, disk, sink)
+}
+
+// The same where every put works.
+fn scan(
+    alloc: Global,
+    image: &[u8],
+    source_fails: &[u64],
+    disk_fails: &[u64],
+) -> Result<MemOutcome, NoMemory>
+    requires { length image.now < 2 ^ 57 }
+{
+    scan_failing(alloc, image, source_fails, disk_fails, false)
 }
 
 // The text of a file with this header and these lines.
@@ -74,49 +108,63 @@ fn file_of(alloc: Global, header: &str, lines: &str) -> Result<String, NoMemory>
     Ok(text)
 }
 
-// An image, and the lines of its URLs and of its domains.
-const ROWS: [(&str, &str, &str); 9] = [
-    ("", "", ""),
+// An image, the lines of its URLs and of its domains, and the text.
+const ROWS: [(&str, &str, &str, &str); 9] = [
+    ("", "", "", "done pages=0 features=0\n"),
     (
         "see http://example.com/a b",
         "4\thttp://example.com/a\tsee http://example.com/a b\n",
         "11\texample.com\tsee http://example.com/a b\n",
+        "done pages=1 features=2\nurl.txt 1\ndomain.txt 1\n",
     ),
     (
         "http://a.b/?u=http://c.d/",
         "0\thttp://a.b/?u=http://c.d/\thttp://a.b/?u=http://c.d/\n14\thttp://c.d/\thttp://a.b/?u=http://c.d/\n",
         "7\ta.b\thttp://a.b/?u=http://c.d/\n21\tc.d\t//a.b/?u=http://c.d/\n",
+        "done pages=1 features=4\nurl.txt 2\ndomain.txt 2\n",
     ),
-    ("x ftp://", "", ""),
-    ("HTTPS://X", "0\tHTTPS://X\tHTTPS://X\n", ""),
+    ("x ftp://", "", "", "done pages=1 features=0\n"),
+    ("HTTPS://X", "0\tHTTPS://X\tHTTPS://X\n", "", ONE_URL),
     (
         "http://jo.doe@h.org/",
         "0\thttp://jo.doe@h.org/\thttp://jo.doe@h.org/\n",
         "",
+        ONE_URL,
     ),
     (
         "http://a.b...:80/",
         "0\thttp://a.b...:80/\thttp://a.b...:80/\n",
         "7\ta.b\thttp://a.b...:80/\n",
+        "done pages=1 features=2\nurl.txt 1\ndomain.txt 1\n",
     ),
-    ("\tftp://a\0\\", "1\tftp://a\t\\x09ftp://a\\x00\\x5C\n", ""),
+    (
+        "\tftp://a\0\\",
+        "1\tftp://a\t\\x09ftp://a\\x00\\x5C\n",
+        "",
+        ONE_URL,
+    ),
     (
         "at the end: ftp://z.y",
         "12\tftp://z.y\tat the end: ftp://z.y\n",
         "18\tz.y\t the end: ftp://z.y\n",
+        "done pages=1 features=2\nurl.txt 1\ndomain.txt 1\n",
     ),
 ];
+
+// The text of a page with one URL and no domain.
+const ONE_URL: &str = "done pages=1 features=1\nurl.txt 1\n";
 
 #[test]
 fn each_url_and_each_domain_has_a_line_at_its_place(rt: HostRuntime) -> Result<(), Fail> {
     let alloc = rt.alloc();
-    for (image, urls, domains) in ROWS {
+    for (image, urls, domains, text) in ROWS {
         let outcome = scan(alloc, image.as_bytes(), &[], &[])?;
         assert_eq!(rt; outcome.status, Status::Done, "at {image:?}");
         let want = file_of(alloc, URL_HEADER, urls)?;
         assert_eq!(rt; outcome.disk.file(1), want.as_bytes(), "at {image:?}");
         let want = file_of(alloc, DOMAIN_HEADER, domains)?;
         assert_eq!(rt; outcome.disk.file(2), want.as_bytes(), "at {image:?}");
+        assert_eq!(rt; outcome.out.bytes(), text.as_bytes(), "at {image:?}");
     }
     Ok(())
 }
@@ -167,6 +215,8 @@ fn an_image_may_be_full_of_urls(rt: HostRuntime) -> Result<(), Fail> {
     );
     assert_eq!(rt; urls.len(), 7_201_178);
     assert_eq!(rt; outcome.disk.file(2), DOMAIN_HEADER.as_bytes());
+    let text = "done pages=1 features=131072\nurl.txt 131072\n";
+    assert_eq!(rt; outcome.out.bytes(), text.as_bytes());
     Ok(())
 }
 
@@ -174,36 +224,56 @@ fn an_image_may_be_full_of_urls(rt: HostRuntime) -> Result<(), Fail> {
 fn words_are_judged_from_left_to_right(rt: HostRuntime) -> Result<(), Fail> {
     let alloc = rt.alloc();
     let full = ["scan"; PLACES_MOST + 2];
-    let rows: [(&[&str], u32, Why); 8] = [
-        (&[], 0, Why::NoCommand),
-        (&["scam", "i", "o"], 0, Why::UnknownCommand),
-        (&["--help"], 0, Why::UnknownCommand),
-        (&["scan"], 1, Why::PlaceMissing),
-        (&["scan", "i"], 2, Why::PlaceMissing),
-        (&["scan", "-x", "i", "o"], 1, Why::UnknownOption),
-        (&["scan", "--page", "511", "i", "o"], 1, Why::UnknownOption),
-        (full.as_slice(), 66, Why::TooMany),
+    let option = "usage: word 1: unknown option\n";
+    let command = "usage: word 0: unknown command\n";
+    let rows: [(&[&str], u32, Why, &str); 8] = [
+        (&[], 0, Why::NoCommand, "usage: word 0: no command\n"),
+        (&["scam", "i", "o"], 0, Why::UnknownCommand, command),
+        (&["--help"], 0, Why::UnknownCommand, command),
+        (
+            &["scan"],
+            1,
+            Why::PlaceMissing,
+            "usage: word 1: place missing\n",
+        ),
+        (
+            &["scan", "i"],
+            2,
+            Why::PlaceMissing,
+            "usage: word 2: place missing\n",
+        ),
+        (&["scan", "-x", "i", "o"], 1, Why::UnknownOption, option),
+        (
+            &["scan", "--page", "511", "i", "o"],
+            1,
+            Why::UnknownOption,
+            option,
+        ),
+        (
+            full.as_slice(),
+            66,
+            Why::TooMany,
+            "usage: word 66: too many\n",
+        ),
     ];
-    for (words, word, why) in rows {
-        let outcome = call(alloc, words, MemSource::make(alloc), MemDisk::make(alloc))?;
+    for (words, word, why, line) in rows {
+        let outcome = call_over_nothing(alloc, words)?;
         assert_eq!(rt; outcome.status, Status::Usage { word, why });
         assert_eq!(rt; outcome.status.number(), 2);
+        assert_eq!(rt; outcome.out.bytes(), line.as_bytes());
     }
-    let outcome = call(
-        alloc,
-        full.split_at(PLACES_MOST + 1).0,
-        MemSource::make(alloc),
-        MemDisk::make(alloc),
-    )?;
+    let outcome = call_over_nothing(alloc, full.split_at(PLACES_MOST + 1).0)?;
     let what = Unbuilt::Parts;
     assert_eq!(rt; outcome.status, Status::NotYet { what });
     assert_eq!(rt; outcome.status.number(), 15);
+    assert_eq!(rt; outcome.out.bytes(), b"not yet: parts\n".as_slice());
     assert_eq!(rt; outcome.disk.calls(), [].as_slice());
 
     // A folder may begin with a dash.
     let mut source = MemSource::make(alloc);
     source.add("i", b"ftp://a")?;
-    let outcome = call(alloc, &["scan", "i", "-x"], source, MemDisk::make(alloc))?;
+    let (disk, sink) = (MemDisk::make(alloc), MemSink::make(alloc));
+    let outcome = call(alloc, &["scan", "i", "-x"], source, disk, sink)?;
     assert_eq!(rt; outcome.status, Status::Done);
     assert_eq!(rt; Status::NoMemory.number(), 14);
     Ok(())
@@ -223,6 +293,7 @@ fn an_image_may_have_1048576_bytes_and_no_more(rt: HostRuntime) -> Result<(), Fa
     let outcome = scan(alloc, image.as_slice(), &[], &[])?;
     let what = Unbuilt::Size(1_048_577);
     assert_eq!(rt; outcome.status, Status::NotYet { what });
+    assert_eq!(rt; outcome.out.bytes(), b"not yet: size 1048577\n".as_slice());
     assert_eq!(rt; outcome.disk.calls(), [].as_slice());
     Ok(())
 }
@@ -276,6 +347,7 @@ fn a_scan_makes_each_call_once(rt: HostRuntime) -> Result<(), Fail> {
         let failed = scan(alloc, b"ftp://a", &[], &[at as u64])?;
         assert_eq!(rt; failed.status, Status::DiskFault, "at {at}");
         assert_eq!(rt; failed.status.number(), 8);
+        assert_eq!(rt; failed.out.bytes(), b"disk fault\n".as_slice());
         assert_eq!(rt;
             failed.disk.calls(),
             calls.as_slice().split_at(at + 1).0,
@@ -296,24 +368,53 @@ fn a_fault_of_the_source_ends_the_scan(rt: HostRuntime) -> Result<(), Fail> {
     let place = ReadPlace::Image;
     assert_eq!(rt; failed.status, Status::ReadFault { place });
     assert_eq!(rt; failed.status.number(), 4);
+    assert_eq!(rt; failed.out.bytes(), b"read fault: image\n".as_slice());
     assert!(rt; made(failed.sources.as_slice(), &[ATTACH]));
     assert_eq!(rt; failed.disk.calls(), [].as_slice());
 
     let failed = scan(alloc, b"ftp://a", &[1], &[])?;
     let place = ReadPlace::Page(0);
     assert_eq!(rt; failed.status, Status::ReadFault { place });
+    assert_eq!(rt; failed.out.bytes(), b"read fault: page 0\n".as_slice());
     assert!(rt; made(failed.sources.as_slice(), &[ATTACH, READ]));
     assert_eq!(rt; failed.disk.calls(), [DiskCall::Mount].as_slice());
     Ok(())
 }
 
+#[test]
+fn a_report_stands_though_its_text_can_not_be_put(rt: HostRuntime) -> Result<(), Fail> {
+    let alloc = rt.alloc();
+    let image = b"see http://example.com/a b";
+    let whole = scan(alloc, image, &[], &[])?;
+    let failed = scan_failing(alloc, image, &[], &[], true)?;
+    assert_eq!(rt; failed.status, Status::OutFault);
+    assert_eq!(rt; failed.status.number(), 13);
+    // Half of the text, which is put at once.
+    assert_eq!(rt; failed.out.bytes(), b"done pages=1 features=2".as_slice());
+    assert_eq!(rt; failed.out.puts(), [47].as_slice());
+    assert_eq!(rt; failed.disk.calls(), whole.disk.calls());
+    for file in 0..64 {
+        assert_eq!(rt; failed.disk.file(file), whole.disk.file(file));
+    }
+    // A refusal stays.
+    let failed = scan_failing(alloc, image, &[], &[0], true)?;
+    assert_eq!(rt; failed.status, Status::DiskFault);
+    assert_eq!(rt; failed.out.bytes(), b"disk ".as_slice());
+    assert_eq!(rt; failed.out.puts(), [11].as_slice());
+    Ok(())
+}
+
 // A call over two sources in memory that hold nothing.
-fn call_with_two(alloc: Global, words: &[&str]) -> Result<Outcome<MemSource, SureDisk>, NoMemory> {
+fn call_with_two(
+    alloc: Global,
+    words: &[&str],
+) -> Result<Outcome<MemSource, SureDisk, MemSink>, NoMemory> {
     let words = texts(alloc, words)?;
     let mut sources = Vec::new(alloc);
     sources.push(MemSource::make(alloc))?;
     sources.push(MemSource::make(alloc))?;
-    Ok(triage(alloc, words.as_slice(), sources, SureDisk::make(alloc)))
+    let (disk, sink) = (SureDisk::make(alloc), MemSink::make(alloc));
+    Ok(triage(alloc, words.as_slice(), sources, disk, sink))
 }
 
 #[test]
