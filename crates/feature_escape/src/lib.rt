@@ -10,6 +10,7 @@
 
 mod law;
 mod read;
+mod search;
 mod write;
 
 pub use law::lenient_undoes_escape;

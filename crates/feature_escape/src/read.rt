@@ -5,7 +5,8 @@ ghost use Rattle.std.specs.List.{starts_with};
 ghost use Rattle.byte_kit.specs.Classes.{hex_class};
 ghost use Rattle.feature_escape.specs.Escape.{AreBytes, BeginsNoEscape, IsNoEscape, begins_escape, digit_worth, escape_of, escaped, stands, unescape_lenient_of};
 
-use crate::write::{digits_of, first_escaped, stands};
+use crate::search::{first_escaped, stands};
+use crate::write::digits_of;
 use byte_kit::{Bytes, NoMemory, is_hex};
 use std::alloc::Global;
 

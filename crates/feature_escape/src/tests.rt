@@ -1,4 +1,5 @@
 use crate::{escape, escape_into, lenient_undoes_escape, unescape_lenient, unescape_strict};
+use std::alloc::{AllocError, Global};
 use std::test::Fail;
 
 #[test]
@@ -37,7 +38,22 @@ fn a_line_takes_several_escapes(rt: HostRuntime) -> Result<(), Fail> {
         line.as_slice(),
         b"4\ta\\x5Cb\t\\x00a\\x5Cb\\x0A".as_slice()
     );
+    for count in 0..71 {
+        let line = after_run(rt.alloc(), count, b"\x7f~\\ \x1f")?;
+        let text = after_run(rt.alloc(), count, b"\\x7F~\\x5C \\x1F")?;
+        let escaped = escape(rt.alloc(), line.as_slice())?;
+        assert_eq!(rt; escaped.as_slice(), text.as_slice());
+    }
     Ok(())
+}
+
+// A run of so many bytes that stand, the piece, and two bytes that stand.
+fn after_run(alloc: Global, count: usize, piece: &[u8]) -> Result<Vec<u8>, AllocError> {
+    let mut line = Vec::new(alloc);
+    line.resize(count, b'~')?;
+    line.extend_from_slice(piece)?;
+    line.extend_from_slice(b" ~")?;
+    Ok(line)
 }
 
 #[test]

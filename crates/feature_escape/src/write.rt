@@ -1,9 +1,10 @@
 // Escapes are written by runs: the bytes that stand are appended as one slice, and what ends the run
 // by its digits.
-ghost use Rattle.std.specs.Prelude.{◌≡◌, ◌+◌, ◌<◌, false, ◌++◌, not, take, vec_len, position, IfOk, OnOk, OnErr};
+ghost use Rattle.std.specs.Prelude.{◌≡◌, ◌+◌, ◌<◌, false, ◌++◌, take, vec_len, IfOk, OnOk, OnErr};
 ghost use Rattle.feature_escape.specs.Escape.{escape_of, escaped, hex_capital, stands};
 
-use byte_kit::{Bytes, NoMemory, is_printable};
+use crate::search::first_escaped;
+use byte_kit::{Bytes, NoMemory};
 use std::alloc::Global;
 
 /// The escape of the bytes. Its one refusal is want of memory.
@@ -43,21 +44,6 @@ fn push_escape(bytes: &[u8], into: &mut Vec<u8>) -> Result<(), NoMemory>
     }
     into.extend_from_slice(rest)?;
     Ok(())
-}
-
-// The index of the first byte that does not stand as it is.
-pub(crate) fn first_escaped(bytes: &[u8]) -> Option<usize>
-    ensures { result ≡ position (λ byte. not (stands byte)) bytes.now }
-{
-    bytes.iter().position(|byte| !stands(*byte))
-}
-
-// Whether a byte stands as it is.
-#[inline]
-pub(crate) fn stands(byte: u8) -> bool
-    ensures { result ≡ stands byte }
-{
-    is_printable(byte) && byte != b'\\'
 }
 
 // `\x` and the two digits of a byte that does not stand, the high one first.
