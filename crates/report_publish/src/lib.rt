@@ -2,7 +2,7 @@
 //! features that stand in it.
 //!
 //! The list is gone over once for all files: a line is made once, and gathered in a piece of each file
-//! that it stands in. A piece is written where the next line would make it longer than 1 MiB.
+//! that it stands in. A piece is written where the next line would make it longer than 128 KiB.
 //!
 //! The promise: after `Ok` each file of the report has exactly its text for the list
 //! (`specs/Publish.antt`), and whatever [`publish_items`] answers, every other file is as it was. Each file

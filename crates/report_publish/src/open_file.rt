@@ -12,8 +12,9 @@ use forensic_path::Classed;
 use host_disk::Disk;
 use std::alloc::Global;
 
-// The most bytes of a piece, unless a single line is longer.
-const PIECE_MOST: usize = 1 << 20;
+// The most bytes of a piece, unless a single line is longer. A larger one takes memory that is touched for
+// the first time, which costs more than the calls that it saves.
+const PIECE_MOST: usize = 1 << 17;
 
 // The least length in bytes that a disk's file can't have.
 const FILE_END: u64 = 1 << 62;

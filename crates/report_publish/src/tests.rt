@@ -106,22 +106,56 @@ const DOMAINS: &str = "# triage feature file, format 1
 46\te\t//e\\x09
 ";
 
+const ADDRESSES: &str = "# triage feature file, format 1
+# file: ip.txt
+# columns: path, feature, context
+50\t1.2.3.4\t
+";
+
+const HARDWARE: &str = "# triage feature file, format 1
+# file: ether.txt
+# columns: path, feature, context
+50\t01:02:03:04:05:06\t
+";
+
+const EXECUTABLES: &str = "# triage feature file, format 1
+# file: exec.txt
+# columns: path, feature, context
+60\texec\t
+";
+
+const UNREAD: &str = "# triage feature file, format 1
+# file: unread.txt
+# columns: path, feature, context
+60\tunread\t
+";
+
+// Files 1 to 6 have these texts.
+fn files_are(disk: &MemDisk, texts: &[&str; 6]) -> bool {
+    for number in 1..7 {
+        if disk.file(number) != texts[number as usize - 1].as_bytes() {
+            return false;
+        }
+    }
+    true
+}
+
 #[test]
 fn each_file_has_the_lines_of_its_kind(rt: HostRuntime) -> Result<(), Fail> {
     let alloc = rt.alloc();
     let items = features(alloc)?;
+    let all = [URLS, DOMAINS, ADDRESSES, HARDWARE, EXECUTABLES, UNREAD];
     let cases = [
-        (3, URLS, DOMAINS, 7),
-        (1, URLS, "second", 4),
-        (2, "first", DOMAINS, 4),
-        (0, "first", "second", 1),
+        (31, all, 19),
+        (3, [URLS, DOMAINS, "third", "", "", ""], 7),
+        (1, [URLS, "second", "third", "", "", ""], 4),
+        (20, ["first", "second", ADDRESSES, HARDWARE, "", UNREAD], 10),
+        (0, ["first", "second", "third", "", "", ""], 1),
     ];
-    for (scanners, urls, domains, calls) in cases {
+    for (scanners, texts, calls) in cases {
         let (disk, result) = published(alloc, items.as_slice(), scanners, &[])?;
         assert_eq!(rt; result, Ok(()));
-        assert_eq!(rt; disk.file(1), urls.as_bytes());
-        assert_eq!(rt; disk.file(2), domains.as_bytes());
-        assert_eq!(rt; disk.file(3), b"third".as_slice());
+        assert!(rt; files_are(&disk, &texts), "by {scanners}");
         assert_eq!(rt; disk.calls().len(), calls);
     }
     Ok(())
@@ -155,11 +189,11 @@ fn pieces_are_written_behind_one_another(rt: HostRuntime) -> Result<(), Fail> {
     let alloc = rt.alloc();
 
     // The header has 82 bytes, the first line 4 more than its URL, and the second line 5. A piece has
-    // at most 1,048,576: the first line fills it, passes it by one, or is longer than a piece.
+    // at most 131,072: the first line fills it, passes it by one, or is longer than a piece.
     let cases: [(usize, &[(u64, u64)]); 3] = [
-        (1_048_490, &[(0, 1_048_576), (1_048_576, 5)]),
-        (1_048_491, &[(0, 82), (82, 1_048_500)]),
-        (1_048_573, &[(0, 82), (82, 1_048_577), (1_048_659, 5)]),
+        (130_986, &[(0, 131_072), (131_072, 5)]),
+        (130_987, &[(0, 82), (82, 130_996)]),
+        (131_069, &[(0, 82), (82, 131_073), (131_155, 5)]),
     ];
     for (bytes, writes) in cases {
         let mut url = Vec::new(alloc);

@@ -56,9 +56,25 @@ a_context_is_escaped : built_file (9 ∷ codes "ftp://a" ++ 255 ∷ []) 1
 unfolding built_file
 a_context_is_escaped = refl
 
-packets_are_not_written : built_file (codes "see http://example.com/a b") 3 ≡ None
+-- the source and then the destination, each in a line
+an_ipv4_header_has_two_lines : built_file (0x45 ∷ 0x00 ∷ 0x00 ∷ 0x73 ∷ 0x00 ∷ 0x00 ∷ 0x40 ∷ 0x00 ∷ 0x40 ∷ 0x11 ∷ 0xb8 ∷ 0x61 ∷ 0xc0 ∷ 0xa8 ∷ 0x00 ∷ 0x01 ∷ 0xc0 ∷ 0xa8 ∷ 0x00 ∷ 0xc7 ∷ []) 3
+    ≡ Some (codes "# triage feature file, format 1\n# file: ip.txt\n# columns: path, feature, context\n0\t192.168.0.1\tE\\x00\\x00s\\x00\\x00@\\x00@\\x11\\xB8a\\xC0\\xA8\\x00\\x01\\xC0\\xA8\\x00\\xC7\n0\t192.168.0.199\tE\\x00\\x00s\\x00\\x00@\\x00@\\x11\\xB8a\\xC0\\xA8\\x00\\x01\\xC0\\xA8\\x00\\xC7\n")
 unfolding built_file
-packets_are_not_written = refl
+an_ipv4_header_has_two_lines = refl
+
+an_executable_says_what_it_is : built_file (0x7f ∷ 0x45 ∷ 0x4c ∷ 0x46 ∷ 0x02 ∷ 0x01 ∷ 0x01 ∷ 0x00 ∷ 0x00 ∷ 0x00 ∷ 0x00 ∷ 0x00 ∷ 0x00 ∷ 0x00 ∷ 0x00 ∷ 0x00 ∷ 0x02 ∷ 0x00 ∷ 0x3e ∷ 0x00 ∷ []) 5
+    ≡ Some (codes "# triage feature file, format 1\n# file: exec.txt\n# columns: path, feature, context\n0\tELF class=64 order=little type=2 machine=62\t\\x7FELF\\x02\\x01\\x01\\x00\\x00\\x00\\x00\\x00\\x00\\x00\\x00\\x00\\x02\\x00>\\x00\n")
+unfolding built_file
+an_executable_says_what_it_is = refl
+
+two_members_that_are_not_read : built_file (0x1f ∷ 0x8b ∷ 0x08 ∷ 0x50 ∷ 0x4b ∷ 0x03 ∷ 0x04 ∷ []) 6
+    ≡ Some (codes "# triage feature file, format 1\n# file: unread.txt\n# columns: path, feature, context\n0\tgzip\t\\x1F\\x8B\\x08PK\\x03\\x04\n3\tzip\t\\x1F\\x8B\\x08PK\\x03\\x04\n")
+unfolding built_file
+two_members_that_are_not_read = refl
+
+keywords_are_not_written : built_file (codes "see http://example.com/a b") 7 ≡ None
+unfolding built_file
+keywords_are_not_written = refl
 
 -- ---- the whole report
 

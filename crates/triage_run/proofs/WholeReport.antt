@@ -1,13 +1,14 @@
 -- What a scan finds and writes is the report of its image: there are no lists.
-use Rattle.std.proofs.Common.{◌≡◌, ◌∙◌, ℕ, ◌==◌, ◌&&◌, not, Bool, false, List, [], ◌∷◌, filter, length, map, true, IsTrue, Some, Result, Ok, Err, IfOk, ap, sym, refl}
+use Rattle.std.proofs.Common.{◌≡◌, ◌∙◌, ℕ, ◌-◌, ◌≤◌, ◌++◌, arith, ◌==◌, ◌&&◌, not, Bool, false, List, [], ◌∷◌, filter, length, map, true, IsTrue, Some, ap, sym, refl}
 use Rattle.std.specs.List.{list_all, AllByRecursion}
 use Rattle.std.specs.Int.{div_ceil}
 use Rattle.std.proofs.lemmas.Bool.{and_parts}
+use Rattle.std.proofs.lemmas.List.{map-append}
 use Rattle.forensic_path.specs.declared.feature.Class.TheVariants.{Plain}
-use Rattle.forensic_path.specs.declared.feature.Feature.{Feature}
 use Rattle.forensic_path.specs.declared.feature.Classed.{Classed}
 use Rattle.host_disk.specs.Files.{Files}
 use Rattle.scan_set.specs.Here.{features_of, owned}
+use Rattle.scan_set.proofs.Blocks.{owned-none, owned-join}
 use Rattle.scan_set.proofs.Images.{features_owned}
 use Rattle.stop_lists.specs.Lists.{classed_by}
 use Rattle.stop_lists.proofs.NoLists.{all_plain}
@@ -19,14 +20,27 @@ use Rattle.triage_run.specs.Case.{plan_built, classed_of, report, case_of, no_ma
 use Rattle.triage_run.specs.declared.plan.TheConstants.{PAGE_BYTES, SCANNERS_BUILT}
 use Rattle.triage_run.specs.Text.{Counts, counts_of, file_lines}
 
--- the features of a buffer that is the whole image, each with its class
-pub all_classed : (image bytes : List ℕ) (base from count : ℕ) (features : List Feature) →
-    bytes ≡ image → base ≡ 0 → from ≡ 0 → count ≡ length image → features ≡ owned [] plan_built 0 [] bytes base from count →
-    {A E : Type 0} (items : A → List Classed) (answer : Result A E) → IfOk answer (λ a. items a ≡ map (λ item. record { class = Plain; item = item }) features) →
-    IfOk answer (λ a. items a ≡ classed_by [] [] (features_of [] plan_built image))
-all_classed image bytes base from count features b0 b1 b2 b3 found items (Err refusal) plain = tt
-all_classed image bytes base from count features b0 b1 b2 b3 found items (Ok a) plain =
-    plain ∙ ap (map (λ item. record { class = Plain; item = item })) (found ∙ (rw (b0, b1, b2, b3) (sym (features_owned [] plan_built image)))) ∙ sym (all_plain (features_of [] plan_built image))
+-- the features of so many places of an image from the first on, each with its class
+abbrev pub items_of : List ℕ → ℕ → ℕ → List Classed
+items_of image first count = map (λ item. record { class = Plain; item = item }) (owned [] plan_built 0 [] image 0 first count)
+
+-- those of no place
+pub items_of-none : (image : List ℕ) → items_of image 0 0 ≡ []
+items_of-none image = ap (map (λ item. record { class = Plain; item = item })) (owned-none [] plan_built 0 [] image 0 0)
+
+-- those of the places up to one, and behind them those up to another
+pub items_of-join : (image : List ℕ) (next to : ℕ) → next ≤ to → items_of image 0 next ++ items_of image next (to - next) ≡ items_of image 0 to
+items_of-join image next to ordered =
+    let low : next - 0 ≡ next = omega arith in
+    let high : to - 0 ≡ to = omega arith in
+    let joined = rw (low, high) at (owned-join [] plan_built 0 [] image 0 0 next to (omega arith) ordered) in
+    sym (map-append (λ item. record { class = Plain; item = item }) (owned [] plan_built 0 [] image 0 0 next) (owned [] plan_built 0 [] image 0 next (to - next)))
+    ∙ ap (map (λ item. record { class = Plain; item = item })) joined
+
+-- and those of all places are those of the image
+pub items_of-all : (image : List ℕ) (next : ℕ) → next ≡ length image → items_of image 0 next ≡ classed_by [] [] (features_of [] plan_built image)
+items_of-all image next end =
+    rw end (ap (map (λ item. record { class = Plain; item = item })) (sym (features_owned [] plan_built image)) ∙ sym (all_plain (features_of [] plan_built image)))
 
 -- a number of a feature file that is written
 abbrev is_features : ℕ → Bool

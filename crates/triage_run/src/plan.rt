@@ -6,8 +6,9 @@ use byte_kit::{Names, Texts};
 use scan_set::ScanPlan;
 use std::alloc::Global;
 
-/// The scanners that are built, a bit each: those of URLs and of domains.
-pub const SCANNERS_BUILT: u16 = 0x0003;
+/// The scanners that are built, a bit each: those of URLs, domains, packets, executables and members that
+/// are not read.
+pub const SCANNERS_BUILT: u16 = 0x001F;
 
 /// How many bytes of context a feature keeps on either side.
 pub const CONTEXT_BYTES: u16 = 16;

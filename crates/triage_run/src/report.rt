@@ -1,5 +1,5 @@
 // The report of an image in memory: what is found in it, its classes, and its files.
-ghost use Rattle.std.specs.Prelude.{◌≡◌, ◌<◌, ◌^◌, [], length, map, true, Some, IfOk, OnOk};
+ghost use Rattle.std.specs.Prelude.{◌≡◌, ◌<◌, ◌^◌, ◌++◌, [], length, map, true, Some, IfOk, OnOk};
 ghost use Rattle.scan_set.specs.Here.{features_of};
 ghost use Rattle.stop_lists.specs.Lists.{classed_by};
 ghost use Rattle.report_publish.specs.Faults.{HasPublishCause};
@@ -17,6 +17,9 @@ use report_publish::{PublishFault, publish_items};
 use sbuf_nest::Sbuf;
 use scan_set::{ScanPlan, Tools, scan_owned};
 use std::alloc::Global;
+
+// How many bytes of the image are scanned before their features are classed.
+const PIECE_BYTES: usize = 65536;
 
 /// Writes the report of an image to a mounted disk, and gives what was found.
 pub fn write_report<D: Disk>(
@@ -43,27 +46,34 @@ pub fn write_report<D: Disk>(
     Ok(found)
 }
 
-// The features of an image, each with its class. Its one refusal is want of memory.
+// The features of an image, each with its class. The image is scanned piece by piece, so that the features
+// of a piece are moved into the list of all while they are in cache, and stand twice at no time. The one
+// refusal is want of memory.
 fn items_in(alloc: Global, image: &[u8], plan: &ScanPlan) -> Result<Vec<Classed>, NoMemory>
     requires plan { plan.now ≡ plan_built }
     requires small { length image.now < 2 ^ 63 }
     ensures { IfOk result (λ items. items.items ≡ classed_by [] [] (features_of [] plan_built image.now)) }
 {
     let mut tools = Tools::make(alloc, plan)?;
-    let sb = Sbuf::of(image, 0, image.len(), 0);
-    let features = scan_owned(&sb, plan, &mut tools)?;
-    classed(alloc, features)
+    let mut items = Vec::new(alloc);
+    let mut next = 0;
+    while next < image.len() {
+        let to = (next + PIECE_BYTES).min(image.len());
+        let piece = Sbuf::of(image, next, to, 0);
+        class_into(scan_owned(&piece, plan, &mut tools)?, &mut items)?;
+        next = to;
+    }
+    Ok(items)
 }
 
-// Each feature with its class, which is plain: there are no lists.
-fn classed(alloc: Global, features: Vec<Feature>) -> Result<Vec<Classed>, NoMemory>
-    ensures { IfOk result (λ items. items.items ≡ map (λ item. record { class = Class.Plain; item = item }) features.items) }
+// Appends each feature with its class, which is plain: there are no lists.
+fn class_into(features: Vec<Feature>, items: &mut Vec<Classed>) -> Result<(), NoMemory>
+    ensures { OnOk result (items.new.items ≡ items.old.items ++ map (λ item. record { class = Class.Plain; item = item }) features.items) }
 {
     let class = Class::Plain;
-    Ok(
-        features
-            .into_iter()
-            .map(|item| Classed { class, item })
-            .collect(alloc)?,
-    )
+    items.reserve(features.len())?;
+    for item in features {
+        items.push(Classed { class, item })?;
+    }
+    Ok(())
 }

@@ -169,6 +169,41 @@ fn each_url_and_each_domain_has_a_line_at_its_place(rt: HostRuntime) -> Result<(
     Ok(())
 }
 
+// An image, the number of a report file, what stands in it behind its name, and the text.
+const OTHER_ROWS: [(&[u8], u32, &str, &str); 3] = [
+    (
+        b"\x45\x00\x00\x73\x00\x00\x40\x00\x40\x11\xb8\x61\xc0\xa8\x00\x01\xc0\xa8\x00\xc7",
+        3,
+        "ip.txt\n# columns: path, feature, context\n0\t192.168.0.1\tE\\x00\\x00s\\x00\\x00@\\x00@\\x11\\xB8a\\xC0\\xA8\\x00\\x01\\xC0\\xA8\\x00\\xC7\n0\t192.168.0.199\tE\\x00\\x00s\\x00\\x00@\\x00@\\x11\\xB8a\\xC0\\xA8\\x00\\x01\\xC0\\xA8\\x00\\xC7\n",
+        "done pages=1 features=2\nip.txt 2\n",
+    ),
+    (
+        b"\x7f\x45\x4c\x46\x02\x01\x01\x00\x00\x00\x00\x00\x00\x00\x00\x00\x02\x00\x3e\x00",
+        5,
+        "exec.txt\n# columns: path, feature, context\n0\tELF class=64 order=little type=2 machine=62\t\\x7FELF\\x02\\x01\\x01\\x00\\x00\\x00\\x00\\x00\\x00\\x00\\x00\\x00\\x02\\x00>\\x00\n",
+        "done pages=1 features=1\nexec.txt 1\n",
+    ),
+    (
+        b"\x1f\x8b\x08\x50\x4b\x03\x04",
+        6,
+        "unread.txt\n# columns: path, feature, context\n0\tgzip\t\\x1F\\x8B\\x08PK\\x03\\x04\n3\tzip\t\\x1F\\x8B\\x08PK\\x03\\x04\n",
+        "done pages=1 features=2\nunread.txt 2\n",
+    ),
+];
+
+#[test]
+fn packets_executables_and_members_have_their_files(rt: HostRuntime) -> Result<(), Fail> {
+    let alloc = rt.alloc();
+    for (image, file, lines, text) in OTHER_ROWS {
+        assert!(rt; image.len() < 100 && file < 64);
+        let outcome = scan(alloc, image, &[], &[])?;
+        let want = file_of(alloc, "# triage feature file, format 1\n# file: ", lines)?;
+        assert_eq!(rt; outcome.disk.file(file), want.as_bytes(), "of {file}");
+        assert_eq!(rt; outcome.out.bytes(), text.as_bytes(), "of {file}");
+    }
+    Ok(())
+}
+
 #[test]
 fn a_url_is_cut_at_2048_bytes(rt: HostRuntime) -> Result<(), Fail> {
     let alloc = rt.alloc();
