@@ -22,7 +22,7 @@ passed=0
 failed=0
 
 # The report files that are built.
-FILES='url.txt domain.txt'
+FILES='url.txt domain.txt ip.txt ether.txt exec.txt unread.txt'
 
 # The header of a feature file.
 header() { printf '# triage feature file, format 1\n# file: %s\n# columns: path, feature, context\n' "$1"; }
@@ -100,6 +100,28 @@ both image '\0\tHTTP://a.b/?u=http://c.d/\\\n'
 report out '2\tHTTP://a.b/?u=http://c.d/\t\\x00\\x09HTTP://a.b/?u=http://c.d/\\x5C\\x0A\n16\thttp://c.d/\t\\x00\\x09HTTP://a.b/?u=http://c.d/\\x5C\\x0A\n' \
     '9\ta.b\t\\x00\\x09HTTP://a.b/?u=http://c.d/\\x5C\n23\tc.d\t//a.b/?u=http://c.d/\\x5C\\x0A\n'
 ends 0 'done pages=1 features=4\nurl.txt 2\ndomain.txt 2\n' scan image out
+
+begin 'packets, an executable, and members that are not read'
+both image '\2\0\0\0\0\1\2\0\0\0\0\2\10\0E\0\0s\0\0@\0@\21\270a\300\250\0\1\300\250\0\307\177ELF\2\1\1\0\0\0\0\0\0\0\0\0\2\0>\0\37\213\10PK\3\4'
+report out '' ''
+{
+    header ip.txt
+    printf '14\t192.168.0.%s\t\\x02\\x00\\x00\\x00\\x00\\x01\\x02\\x00\\x00\\x00\\x00\\x02\\x08\\x00E\\x00\\x00s\\x00\\x00@\\x00@\\x11\\xB8a\\xC0\\xA8\\x00\\x01\\xC0\\xA8\\x00\\xC7\\x7FELF\\x02\\x01\\x01\\x00\\x00\\x00\\x00\\x00\\x00\\x00\\x00\\x00\n' 1 199
+} > "$scratch/want/out/ip.txt"
+{
+    header ether.txt
+    printf '0\t02:00:00:00:00:0%s\t\\x02\\x00\\x00\\x00\\x00\\x01\\x02\\x00\\x00\\x00\\x00\\x02\\x08\\x00E\\x00\\x00s\\x00\\x00@\\x00@\\x11\\xB8a\\xC0\\xA8\\x00\\x01\n' 1 2
+} > "$scratch/want/out/ether.txt"
+{
+    header exec.txt
+    printf '34\tELF class=64 order=little type=2 machine=62\t\\x00\\x00@\\x00@\\x11\\xB8a\\xC0\\xA8\\x00\\x01\\xC0\\xA8\\x00\\xC7\\x7FELF\\x02\\x01\\x01\\x00\\x00\\x00\\x00\\x00\\x00\\x00\\x00\\x00\\x02\\x00>\\x00\\x1F\\x8B\\x08PK\\x03\\x04\n'
+} > "$scratch/want/out/exec.txt"
+{
+    header unread.txt
+    printf '54\tgzip\t\\x02\\x01\\x01\\x00\\x00\\x00\\x00\\x00\\x00\\x00\\x00\\x00\\x02\\x00>\\x00\\x1F\\x8B\\x08PK\\x03\\x04\n'
+    printf '57\tzip\t\\x00\\x00\\x00\\x00\\x00\\x00\\x00\\x00\\x00\\x02\\x00>\\x00\\x1F\\x8B\\x08PK\\x03\\x04\n'
+} > "$scratch/want/out/unread.txt"
+ends 0 'done pages=1 features=7\nip.txt 2\nether.txt 2\nexec.txt 1\nunread.txt 2\n' scan image out
 
 begin 'a folder whose parents are missing'
 both image "$SEE"
