@@ -1,5 +1,5 @@
 // Which call ends how, what it calls, and what it prints.
-use super::{MemOutcome, call, call_over_nothing, scan, scan_failing, texts};
+use super::{MemOutcome, call_over_nothing, scan, scan_failing, texts};
 use crate::{Outcome, PLACES_MOST, ReadPlace, Status, Unbuilt, Why, triage};
 use byte_kit::NoMemory;
 use host_disk::{DiskCall, MemDisk, SureDisk};
@@ -104,35 +104,6 @@ fn a_status_has_its_number(rt: HostRuntime) {
     }
 }
 
-#[test]
-fn a_folder_may_begin_with_a_dash(rt: HostRuntime) -> Result<(), Fail> {
-    let alloc = rt.alloc();
-    let mut source = MemSource::make(alloc);
-    source.add("i", b"ftp://a")?;
-    let (disk, sink) = (MemDisk::make(alloc), MemSink::make(alloc));
-    let outcome = call(alloc, &["scan", "i", "-x"], source, disk, sink)?;
-    assert_eq!(rt; outcome.status, Status::Done);
-    Ok(())
-}
-
-#[test]
-fn an_image_may_have_1048576_bytes_and_no_more(rt: HostRuntime) -> Result<(), Fail> {
-    let alloc = rt.alloc();
-    let mut image = Vec::new(alloc);
-    image.resize(1_048_576, 0)?;
-    let outcome = scan(alloc, image.as_slice(), &[], &[])?;
-    assert_eq!(rt; outcome.status, Status::Done);
-
-    image.push(0)?;
-    assert!(rt; image.len() < 2_000_000);
-    let outcome = scan(alloc, image.as_slice(), &[], &[])?;
-    let what = Unbuilt::Size(1_048_577);
-    assert_eq!(rt; outcome.status, Status::NotYet { what });
-    assert_eq!(rt; outcome.out.bytes(), b"not yet: size 1048577\n".as_slice());
-    assert_eq!(rt; outcome.disk.calls(), [].as_slice());
-    Ok(())
-}
-
 const ATTACH: SourceCall = SourceCall::Attach { slot: 0 };
 
 // The read of the whole of `ftp://a`.
@@ -176,18 +147,19 @@ fn a_scan_makes_each_call_once(rt: HostRuntime) -> Result<(), Fail> {
     let calls = calls_of_a_scan(alloc, &whole.disk)?;
     assert_eq!(rt; whole.disk.calls(), calls.as_slice());
     for at in 0..calls.len() {
-        assert!(rt; ends_at(alloc, calls.as_slice(), at)?, "at {at}");
+        let made = calls.as_slice().split_at(at + 1).0;
+        assert!(rt; ends_at(alloc, at as u64, made)?, "at {at}");
     }
     Ok(())
 }
 
-// A disk that fails at this one of the calls is asked for nothing else.
-fn ends_at(alloc: Global, calls: &[DiskCall], at: usize) -> Result<bool, NoMemory> {
-    let failed = scan(alloc, b"ftp://a", &[], &[at as u64])?;
+// A disk that fails at this call was asked for these and for nothing else.
+fn ends_at(alloc: Global, at: u64, made: &[DiskCall]) -> Result<bool, NoMemory> {
+    let failed = scan(alloc, b"ftp://a", &[], &[at])?;
     Ok(
         failed.status == Status::DiskFault
             && failed.out.bytes() == b"disk fault\n".as_slice()
-            && calls.get(..at + 1) == Some(failed.disk.calls()),
+            && failed.disk.calls() == made,
     )
 }
 
@@ -219,16 +191,6 @@ fn a_fault_of_the_source_ends_the_scan(rt: HostRuntime) -> Result<(), Fail> {
     Ok(())
 }
 
-// Every file of the one disk is as on the other.
-fn are_alike(disk: &MemDisk, other: &MemDisk) -> bool {
-    for file in 0..64 {
-        if disk.file(file) != other.file(file) {
-            return false;
-        }
-    }
-    true
-}
-
 const SEE: &[u8] = b"see http://example.com/a b";
 
 #[test]
@@ -237,7 +199,8 @@ fn a_report_stands_though_its_text_can_not_be_put(rt: HostRuntime) -> Result<(),
     let whole = scan(alloc, SEE, &[], &[])?;
     let failed = scan_failing(alloc, SEE, &[], &[], true)?;
     assert_eq!(rt; failed.status, Status::OutFault);
-    assert!(rt; are_alike(&failed.disk, &whole.disk));
+    assert_eq!(rt; failed.disk.file(1), whole.disk.file(1));
+    assert_eq!(rt; failed.disk.file(2), whole.disk.file(2));
     assert_eq!(rt; failed.disk.calls(), whole.disk.calls());
     // Half of the text, which is put at once.
     assert_eq!(rt; failed.out.bytes(), b"done pages=1 features=2".as_slice());

@@ -1,8 +1,6 @@
 // What scans that are done leave and print.
 use super::scan;
 use crate::Status;
-use byte_kit::NoMemory;
-use std::alloc::Global;
 use std::test::Fail;
 
 const URL_HEADER: &str =
@@ -11,11 +9,9 @@ const URL_HEADER: &str =
 const DOMAIN_HEADER: &str =
     "# triage feature file, format 1\n# file: domain.txt\n# columns: path, feature, context\n";
 
-// The text of a file with this header and these lines.
-fn file_of(alloc: Global, header: &str, lines: &str) -> Result<String, NoMemory> {
-    let mut text = String::from_str(alloc, header)?;
-    text.push_str(lines)?;
-    Ok(text)
+// A file has this front, and behind it these lines and nothing else.
+fn has(file: &[u8], front: &str, lines: &str) -> bool {
+    file.strip_prefix(front.as_bytes()) == Some(lines.as_bytes())
 }
 
 // An image, the lines of its URLs and of its domains, and the text.
@@ -70,10 +66,11 @@ fn each_url_and_each_domain_has_a_line_at_its_place(rt: HostRuntime) -> Result<(
     for (image, urls, domains, text) in ROWS {
         let outcome = scan(alloc, image.as_bytes(), &[], &[])?;
         assert_eq!(rt; outcome.status, Status::Done, "at {image:?}");
-        let want = file_of(alloc, URL_HEADER, urls)?;
-        assert_eq!(rt; outcome.disk.file(1), want.as_bytes(), "at {image:?}");
-        let want = file_of(alloc, DOMAIN_HEADER, domains)?;
-        assert_eq!(rt; outcome.disk.file(2), want.as_bytes(), "at {image:?}");
+        assert!(rt; has(outcome.disk.file(1), URL_HEADER, urls), "at {image:?}");
+        assert!(rt;
+            has(outcome.disk.file(2), DOMAIN_HEADER, domains),
+            "at {image:?}"
+        );
         assert_eq!(rt; outcome.out.bytes(), text.as_bytes(), "at {image:?}");
     }
     Ok(())
@@ -107,37 +104,9 @@ fn packets_executables_and_members_have_their_files(rt: HostRuntime) -> Result<(
     for (image, file, lines, text) in OTHER_ROWS {
         assert!(rt; image.len() < 100 && file < 64);
         let outcome = scan(alloc, image, &[], &[])?;
-        let want = file_of(alloc, "# triage feature file, format 1\n# file: ", lines)?;
-        assert_eq!(rt; outcome.disk.file(file), want.as_bytes(), "of {file}");
+        let front = "# triage feature file, format 1\n# file: ";
+        assert!(rt; has(outcome.disk.file(file), front, lines), "of {file}");
         assert_eq!(rt; outcome.out.bytes(), text.as_bytes(), "of {file}");
-    }
-    Ok(())
-}
-
-#[test]
-fn a_url_is_cut_at_2048_bytes(rt: HostRuntime) -> Result<(), Fail> {
-    let alloc = rt.alloc();
-    let mut image = Vec::from_slice(alloc, b"http://")?;
-    image.resize(2048, b'a')?;
-    let mut want = String::from_str(alloc, URL_HEADER)?;
-    want.push_str("0\thttp://")?;
-    for _ in 0..2041 {
-        want.push('a')?;
-    }
-    want.push_str("\thttp://")?;
-    for _ in 0..2041 {
-        want.push('a')?;
-    }
-    // The context of the first ends with the image, and that of the second takes a byte more.
-    let mut longer = want.clone()?;
-    want.push('\n')?;
-    longer.push_str("a\n")?;
-    for want in [want, longer] {
-        assert!(rt; image.len() < 3000);
-        let outcome = scan(alloc, image.as_slice(), &[], &[])?;
-        assert_eq!(rt; outcome.status, Status::Done);
-        assert_eq!(rt; outcome.disk.file(1), want.as_bytes());
-        image.push(b'a')?;
     }
     Ok(())
 }
