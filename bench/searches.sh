@@ -6,7 +6,11 @@
 # least of RUNS runs, and a figure is that of MANY searches of one buffer, less that of one.
 #
 #   url net exec   the search for one scanner's shapes: `find_urls`, `find_packets`, `find_execs`
-#   all            the features of a scan by every scanner that is built: `scan_owned`
+#   find           8 keywords, of which few stand there; `find1` and `find64` that many: `find_given_into`
+#   pattern        4 patterns, of which few match; `pattern1` one: the same
+#   word           words of 6 to 14 bytes: `find_words`
+#   all            the features of a scan by every scanner that is built but the one for words, without
+#                  keywords and patterns: `scan_owned`
 #   peer           only where PEER names another program that knows `scan [OPTIONS] IMAGE OUT`: its whole
 #                  scan with the options PEER_WORDS, without the time that it takes on an empty image
 #
@@ -17,7 +21,7 @@ export LC_ALL=C
 
 RUNS=${RUNS:-10}
 MANY=${MANY:-11}
-SEARCHES=${SEARCHES:-url net exec all}
+SEARCHES=${SEARCHES:-url net exec find1 find find64 pattern1 pattern word all}
 SCAN_SPEED=${SCAN_SPEED:-crates/scan_speed/out/scan_speed}
 PEER=${PEER:-}
 PEER_WORDS=${PEER_WORDS:-}
@@ -71,17 +75,17 @@ head -c "$SIZE" /dev/zero > "$work/zeros"
 : > "$work/empty"
 
 printf '%-8s' image
-for search in $SEARCHES ${PEER:+peer}; do printf ' %7s' "$search"; done
+for search in $SEARCHES ${PEER:+peer}; do printf ' %8s' "$search"; done
 printf '\n'
 for image in files random zeros; do
     printf '%-8s' "$image"
     for search in $SEARCHES; do
         once=$(least run_search "$search" "$work/$image" 1)
         many=$(least run_search "$search" "$work/$image" "$MANY")
-        printf ' %7s' "$(rate "$many" "$once" $((MANY - 1)))"
+        printf ' %8s' "$(rate "$many" "$once" $((MANY - 1)))"
     done
     if [ -n "$PEER" ]; then
-        printf ' %7s' "$(rate "$(least run_peer "$work/$image")" "$(least run_peer "$work/empty")" 1)"
+        printf ' %8s' "$(rate "$(least run_peer "$work/$image")" "$(least run_peer "$work/empty")" 1)"
     fi
     printf '\n'
 done

@@ -22,7 +22,7 @@ passed=0
 failed=0
 
 # The report files that are built.
-FILES='url.txt domain.txt ip.txt ether.txt exec.txt unread.txt'
+FILES='url.txt domain.txt ip.txt ether.txt exec.txt unread.txt find.txt'
 
 # The header of a feature file.
 header() { printf '# triage feature file, format 1\n# file: %s\n# columns: path, feature, context\n' "$1"; }
@@ -123,6 +123,24 @@ report out '' ''
 } > "$scratch/want/out/unread.txt"
 ends 0 'done pages=1 features=7\nip.txt 2\nether.txt 2\nexec.txt 1\nunread.txt 2\n' scan image out
 
+begin 'a keyword, and a pattern at each place'
+both image 'xaab'
+report out '' ''
+printf '1\taab\txaab\n1\taa\txaab\n2\ta\txaab\n' >> ../want/out/find.txt
+ends 0 'done pages=1 features=3\nfind.txt 3\n' scan --find aab --pattern a+ image out
+
+begin 'patterns whose places see nothing ahead, options in any order'
+both image 'aab'
+report out '' ''
+printf '0\ta\taab\n1\ta\taab\n2\tb\taab\n' >> ../want/out/find.txt
+ends 0 'done pages=1 features=3\nfind.txt 3\n' scan --pattern ^a --find b image out
+
+begin 'keywords that overlap, two that are equal, one that begins with a dash'
+both image 'aaa --find'
+report out '' ''
+printf '0\taa\taaa --find\n0\taa\taaa --find\n1\taa\taaa --find\n1\taa\taaa --find\n4\t--find\taaa --find\n' >> ../want/out/find.txt
+ends 0 'done pages=1 features=5\nfind.txt 5\n' scan --find aa --find aa --find --find image out
+
 begin 'a folder whose parents are missing'
 both image "$SEE"
 report new/deep/out "$SEE_URL" "$SEE_DOMAIN"
@@ -188,6 +206,35 @@ ends 2 'usage: word 1: unknown option\n' scan -x image out
 begin 'a place that is missing'
 both image "$SEE"
 ends 2 'usage: word 2: place missing\n' scan image
+
+begin 'an option without its value'
+both image "$SEE"
+ends 2 'usage: word 2: value missing\n' scan --find
+
+begin 'a keyword of no byte'
+both image "$SEE"
+ends 2 'usage: word 2: bad text\n' scan --find '' image out
+begin 'a keyword of 257 bytes'
+both image "$SEE"
+ends 2 'usage: word 4: bad text\n' scan --pattern a --find "$(printf 'x%.0s' $(seq 257))" image out
+begin 'a pattern of 257 bytes'
+both image "$SEE"
+ends 2 'usage: word 2: bad text\n' scan --pattern "$(printf 'x%.0s' $(seq 257))" image out
+
+begin 'a keyword too many'
+both image "$SEE"
+ends 2 'usage: word 129: too many\n' scan $(printf -- '--find x %.0s' $(seq 65)) image out
+
+begin 'a pattern too many'
+both image "$SEE"
+ends 2 'usage: word 9: too many\n' scan --pattern a --pattern b --pattern c --pattern d --pattern e image out
+
+begin 'a pattern that is refused'
+both image "$SEE"
+ends 5 'pattern refused: 0\n' scan --pattern '(' image out
+
+begin 'the second pattern is refused, and the image is missing'
+ends 5 'pattern refused: 1\n' scan --pattern a --pattern '[' image out
 
 begin 'two hundred words'
 both image "$SEE"

@@ -1,54 +1,65 @@
 use crate::{escape, escape_into, lenient_undoes_escape, unescape_lenient, unescape_strict};
-use std::alloc::{AllocError, Global};
+use byte_kit::NoMemory;
+use std::alloc::Global;
 use std::test::Fail;
+
+// The bytes are escaped as this text.
+fn is_escaped(alloc: Global, bytes: &[u8], text: &[u8]) -> Result<bool, NoMemory> {
+    let escaped = escape(alloc, bytes)?;
+    Ok(escaped.as_slice() == text)
+}
+
+// The strict reading of the text gives these bytes.
+fn is_read(alloc: Global, text: &[u8], bytes: &[u8]) -> Result<bool, NoMemory> {
+    match unescape_strict(alloc, text)? {
+        Some(read) => Ok(read.as_slice() == bytes),
+        None => Ok(false),
+    }
+}
+
+// The lenient reading of the text gives these bytes.
+fn is_taken(alloc: Global, text: &[u8], bytes: &[u8]) -> Result<bool, NoMemory> {
+    let read = unescape_lenient(alloc, text)?;
+    Ok(read.as_slice() == bytes)
+}
+
+// Bytes, and their escape.
+const ESCAPES: &[(&[u8], &[u8])] = &[
+    (b"", b""),
+    (b"\x09\x5c\xff", b"\\x09\\x5C\\xFF"),
+    (b" see x5C ~", b" see x5C ~"),
+    (b"a\x00b\x7f\x80", b"a\\x00b\\x7F\\x80"),
+    (b"\n\x1f\xab\xfe", b"\\x0A\\x1F\\xAB\\xFE"),
+];
 
 #[test]
 fn what_is_not_printable_stands_by_its_digits(rt: HostRuntime) -> Result<(), Fail> {
-    let alloc = rt.alloc();
-    for (bytes, text) in [
-        (b"".as_slice(), b"".as_slice()),
-        (b"\x09\x5c\xff".as_slice(), b"\\x09\\x5C\\xFF".as_slice()),
-        (b" see x5C ~".as_slice(), b" see x5C ~".as_slice()),
-        (
-            b"a\x00b\x7f\x80".as_slice(),
-            b"a\\x00b\\x7F\\x80".as_slice(),
-        ),
-        (
-            b"\n\x1f\xab\xfe".as_slice(),
-            b"\\x0A\\x1F\\xAB\\xFE".as_slice(),
-        ),
-    ] {
-        let escaped = escape(alloc, bytes)?;
-        assert_eq!(rt; escaped.as_slice(), text);
-        match unescape_strict(alloc, text)? {
-            Some(read) => assert_eq!(rt; read.as_slice(), bytes),
-            None => panic!(rt; "an escape is refused"),
-        }
+    for (bytes, text) in ESCAPES {
+        assert!(rt; is_escaped(rt.alloc(), bytes, text)?, "at {bytes:?}");
+        assert!(rt; is_read(rt.alloc(), text, bytes)?, "at {bytes:?}");
     }
     Ok(())
+}
+
+// A line of two escapes behind a text.
+fn two_escapes(alloc: Global) -> Result<Vec<u8>, NoMemory> {
+    let mut line = Vec::from_slice(alloc, b"4\t")?;
+    escape_into(b"a\\b", &mut line)?;
+    line.extend_from_slice(b"\t")?;
+    escape_into(b"\x00a\\b\x0a", &mut line)?;
+    Ok(line)
 }
 
 #[test]
 fn a_line_takes_several_escapes(rt: HostRuntime) -> Result<(), Fail> {
-    let mut line = Vec::from_slice(rt.alloc(), b"4\t")?;
-    escape_into(b"a\\b", &mut line)?;
-    line.extend_from_slice(b"\t")?;
-    escape_into(b"\x00a\\b\x0a", &mut line)?;
-    assert_eq!(rt;
-        line.as_slice(),
-        b"4\ta\\x5Cb\t\\x00a\\x5Cb\\x0A".as_slice()
-    );
-    for count in 0..71 {
-        let line = after_run(rt.alloc(), count, b"\x7f~\\ \x1f")?;
-        let text = after_run(rt.alloc(), count, b"\\x7F~\\x5C \\x1F")?;
-        let escaped = escape(rt.alloc(), line.as_slice())?;
-        assert_eq!(rt; escaped.as_slice(), text.as_slice());
-    }
+    let line = two_escapes(rt.alloc())?;
+    let text = b"4\ta\\x5Cb\t\\x00a\\x5Cb\\x0A".as_slice();
+    assert!(rt; line.as_slice() == text);
     Ok(())
 }
 
 // A run of so many bytes that stand, the piece, and two bytes that stand.
-fn after_run(alloc: Global, count: usize, piece: &[u8]) -> Result<Vec<u8>, AllocError> {
+fn after_run(alloc: Global, count: usize, piece: &[u8]) -> Result<Vec<u8>, NoMemory> {
     let mut line = Vec::new(alloc);
     line.resize(count, b'~')?;
     line.extend_from_slice(piece)?;
@@ -56,61 +67,95 @@ fn after_run(alloc: Global, count: usize, piece: &[u8]) -> Result<Vec<u8>, Alloc
     Ok(line)
 }
 
+// The piece is escaped as this text behind so many bytes that stand.
+fn is_escaped_behind(
+    alloc: Global,
+    count: usize,
+    piece: &[u8],
+    text: &[u8],
+) -> Result<bool, NoMemory> {
+    let line = after_run(alloc, count, piece)?;
+    let text = after_run(alloc, count, text)?;
+    is_escaped(alloc, line.as_slice(), text.as_slice())
+}
+
 #[test]
-fn the_strict_reading_refuses_what_no_escape_is(rt: HostRuntime) -> Result<(), Fail> {
-    let alloc = rt.alloc();
-    for text in [
-        b"\\x41".as_slice(),
-        b"\\x5c".as_slice(),
-        b"\\".as_slice(),
-        b"\\x4".as_slice(),
-        b"\t".as_slice(),
-        b"\\xZZ".as_slice(),
-        b"\\X5C".as_slice(),
-        b"\\xfF".as_slice(),
-        b"a\\x5C\\".as_slice(),
-        b"a\xff".as_slice(),
-    ] {
-        assert!(rt; unescape_strict(alloc, text)?.is_none());
+fn no_offset_hides_what_is_escaped(rt: HostRuntime) -> Result<(), Fail> {
+    let piece = b"\x7f~\\ \x1f".as_slice();
+    let text = b"\\x7F~\\x5C \\x1F".as_slice();
+    for count in 0..71 {
+        assert!(rt;
+            is_escaped_behind(rt.alloc(), count, piece, text)?,
+            "at {count}"
+        );
     }
     Ok(())
 }
 
+// Texts that are no escape of any bytes.
+const REFUSED: &[&[u8]] = &[
+    b"\\x41",
+    b"\\x5c",
+    b"\\",
+    b"\\x4",
+    b"\t",
+    b"\\xZZ",
+    b"\\X5C",
+    b"\\xfF",
+    b"a\\x5C\\",
+    b"a\xff",
+];
+
+// The strict reading refuses the text.
+fn is_refused(alloc: Global, text: &[u8]) -> Result<bool, NoMemory> {
+    Ok(unescape_strict(alloc, text)?.is_none())
+}
+
 #[test]
-fn the_lenient_reading_takes_what_anybody_wrote(rt: HostRuntime) -> Result<(), Fail> {
-    let alloc = rt.alloc();
-    for (text, bytes) in [
-        (b"".as_slice(), b"".as_slice()),
-        (b"\\x5c".as_slice(), b"\x5c".as_slice()),
-        (b"\\x4".as_slice(), b"\\x4".as_slice()),
-        (b"\\xZZ".as_slice(), b"\\xZZ".as_slice()),
-        (b"\\X41".as_slice(), b"\\X41".as_slice()),
-        (b"a\\x4".as_slice(), b"a\\x4".as_slice()),
-        (b"\\\\x41\\".as_slice(), b"\\A\\".as_slice()),
-        (b"\\x5Cx41\t\\xfF".as_slice(), b"\\x41\t\xff".as_slice()),
-    ] {
-        let read = unescape_lenient(alloc, text)?;
-        assert_eq!(rt; read.as_slice(), bytes);
+fn the_strict_reading_refuses_what_no_escape_is(rt: HostRuntime) -> Result<(), Fail> {
+    for text in REFUSED {
+        assert!(rt; is_refused(rt.alloc(), text)?, "at {text:?}");
     }
     Ok(())
+}
+
+// A text, and the bytes that the lenient reading takes it for.
+const TAKEN: &[(&[u8], &[u8])] = &[
+    (b"", b""),
+    (b"\\x5c", b"\x5c"),
+    (b"\\x4", b"\\x4"),
+    (b"\\xZZ", b"\\xZZ"),
+    (b"\\X41", b"\\X41"),
+    (b"a\\x4", b"a\\x4"),
+    (b"\\\\x41\\", b"\\A\\"),
+    (b"\\x5Cx41\t\\xfF", b"\\x41\t\xff"),
+];
+
+#[test]
+fn the_lenient_reading_takes_what_anybody_wrote(rt: HostRuntime) -> Result<(), Fail> {
+    for (text, bytes) in TAKEN {
+        assert!(rt; is_taken(rt.alloc(), text, bytes)?, "at {text:?}");
+    }
+    Ok(())
+}
+
+// Each byte once.
+fn each_byte() -> [u8; 256] {
+    let mut bytes = [0u8; 256];
+    for byte in 0..=255u8 {
+        bytes[byte as usize] = byte;
+    }
+    bytes
 }
 
 #[test]
 fn both_readings_give_each_byte_again(rt: HostRuntime) -> Result<(), Fail> {
     lenient_undoes_escape();
-    let alloc = rt.alloc();
-    let mut bytes = [0u8; 256];
-    for byte in 0..=255u8 {
-        bytes[byte as usize] = byte;
-    }
-    let text = escape(alloc, &bytes)?;
+    let bytes = each_byte();
+    let text = escape(rt.alloc(), &bytes)?;
     // 94 bytes stand, and 162 are four letters each.
-    assert_eq!(rt; text.as_slice().len(), 742);
-    let lenient = unescape_lenient(alloc, text.as_slice())?;
-    assert_eq!(rt; lenient.as_slice(), bytes.as_slice());
-    match unescape_strict(alloc, text.as_slice())? {
-        Some(strict) => assert_eq!(rt; strict.as_slice(), bytes.as_slice()),
-        None => panic!(rt; "an escape is refused"),
-    }
+    assert!(rt; text.as_slice().len() == 742);
+    assert!(rt; is_taken(rt.alloc(), text.as_slice(), &bytes)?);
+    assert!(rt; is_read(rt.alloc(), text.as_slice(), &bytes)?);
     Ok(())
 }

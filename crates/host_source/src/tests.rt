@@ -1,7 +1,10 @@
 ghost use Rattle.std.specs.Prelude.{◌≡◌, ◌+◌, ◌<◌, ◌≤◌, length, take, drop, None, IsTrue, IfSome, IfOk};
+ghost use Rattle.host_source.specs.MemSource.{mem_slots};
 ghost use Rattle.host_source.specs.Source.{IsDetached, MayAttachAll, told};
 
 use crate::{MemSink, MemSource, Sink, SinkFault, Source, SourceCall, SourceFault, SureSource};
+use byte_kit::NoMemory;
+use std::alloc::Global;
 use std::test::Fail;
 use std::thread::{self, Threads};
 
@@ -59,44 +62,75 @@ fn hand_out<R: Threads + Sync, S: Source + Send + Drop>(rt: &R, sources: &mut Ve
     thread::for_each_mut(rt, sources.as_mut_slice(), 2, &|_, _: &mut S| {});
 }
 
-#[test]
-fn attach_gives_the_size_and_a_read_in_the_middle_its_bytes(rt: HostRuntime) -> Result<(), Fail> {
-    let mut source = MemSource::make(rt.alloc());
+// A source that holds two names.
+fn two_names(alloc: Global) -> Result<MemSource, NoMemory>
+    ensures { IfOk result (λ source. IsDetached (mem_slots source)) }
+{
+    let mut source = MemSource::make(alloc);
     source.add("note.txt", b"")?;
     source.add("disk.raw", b"0123456789")?;
+    Ok(source)
+}
+
+// The size of what the name holds, and four bytes from place `at` on.
+fn four_of<S: Source + Drop>(
+    mut source: S,
+    slot: u32,
+    name: &str,
+    at: u64,
+) -> Result<(u64, [u8; 4]), SourceFault>
+    requires below { slot < 64 }
+    requires free { S.slots source slot ≡ None }
+    requires asked { IsTrue ((S.nature source).may_attach name.now) }
+{
+    let mut into = [b'x'; 4];
+    let size = read_from(&mut source, slot, name, at, &mut into)?;
+    Ok((size, into))
+}
+
+#[test]
+fn attach_gives_the_size_and_a_read_in_the_middle_its_bytes(rt: HostRuntime) -> Result<(), Fail> {
+    let mut source = two_names(rt.alloc())?;
     // A missing name leaves the slot free.
     assert!(rt; is_refused(&mut source, "disk.ra"));
-    let mut into = [b'x'; 4];
-    assert_eq!(rt; read_from(&mut source, 0, "disk.raw", 3, &mut into)?, 10);
-    assert_eq!(rt; into, *b"3456");
-
-    let mut sure = SureSource::of("disk.raw", b"abcdefgh");
-    assert_eq!(rt; read_from(&mut sure, 63, "disk.raw", 4, &mut into)?, 8);
-    assert_eq!(rt; into, *b"efgh");
+    assert!(rt; four_of(source, 0, "disk.raw", 3)? == (10, *b"3456"));
     Ok(())
 }
 
 #[test]
-fn the_named_calls_fail_and_the_next_one_works(rt: HostRuntime) -> Result<(), Fail> {
-    let mut source = MemSource::make(rt.alloc());
-    source.add("disk.raw", b"0123456789")?;
+fn a_sure_source_is_read_in_the_middle(rt: HostRuntime) -> Result<(), Fail> {
+    let sure = SureSource::of("disk.raw", b"abcdefgh");
+    assert!(rt; four_of(sure, 63, "disk.raw", 4)? == (8, *b"efgh"));
+    Ok(())
+}
+
+// A source of which the calls 0, 2 and 7 fail.
+fn failing(alloc: Global) -> Result<MemSource, NoMemory>
+    ensures { IfOk result (λ source. IsDetached (mem_slots source)) }
+{
+    let mut source = two_names(alloc)?;
     source.fail_calls(&[2])?;
     source.fail_calls(&[7, 0])?;
+    Ok(source)
+}
+
+const ATTACH: SourceCall = SourceCall::Attach { slot: 0 };
+
+const READ: SourceCall = SourceCall::Read {
+    slot: 0,
+    at: 0,
+    bytes: 4,
+};
+
+// The calls of the test below.
+const MADE: &[SourceCall] = &[ATTACH, ATTACH, READ, READ];
+
+#[test]
+fn the_named_calls_fail_and_the_next_one_works(rt: HostRuntime) -> Result<(), Fail> {
+    let mut source = failing(rt.alloc())?;
     let mut into = [b'x'; 4];
     assert!(rt; works_at_the_second_try(&mut source, "disk.raw", &mut into));
-    assert_eq!(rt; into, *b"0123");
-    let read = SourceCall::Read {
-        slot: 0,
-        at: 0,
-        bytes: 4,
-    };
-    let made = [
-        SourceCall::Attach { slot: 0 },
-        SourceCall::Attach { slot: 0 },
-        read,
-        read,
-    ];
-    assert_eq!(rt; source.calls(), made.as_slice());
+    assert!(rt; into == *b"0123" && source.calls() == MADE);
     Ok(())
 }
 
@@ -116,24 +150,31 @@ fn put_into<O: Sink>(sink: &mut O, bytes: &[u8]) -> Result<(), SinkFault> {
     sink.put(bytes)
 }
 
-#[test]
-fn a_put_that_fails_leaves_half_of_its_bytes(rt: HostRuntime) -> Result<(), Fail> {
-    let mut sink = MemSink::make(rt.alloc());
+// A sink of which the puts 1 and 3 fail.
+fn failing_sink(alloc: Global) -> Result<MemSink, NoMemory> {
+    let mut sink = MemSink::make(alloc);
     sink.fail_put(1)?;
     sink.fail_put(3)?;
-    let failed = Err(SinkFault::Failed);
-    let rows: [(&[u8], Result<(), SinkFault>, &[u8]); 6] = [
-        (b"ab", Ok(()), b"ab"),
-        (b"cdefg", failed, b"abcd"),
-        (b"", Ok(()), b"abcd"),
-        (b"h", failed, b"abcd"),
-        (b"h", Ok(()), b"abcdh"),
-        (b"ij\n", Ok(()), b"abcdhij\n"),
-    ];
-    for (bytes, answer, taken) in rows {
-        assert_eq!(rt; put_into(&mut sink, bytes), answer, "at {taken:?}");
-        assert_eq!(rt; sink.bytes(), taken);
+    Ok(sink)
+}
+
+// What is put, how that ends, and what the sink has taken then.
+const PUTS: &[(&[u8], Result<(), SinkFault>, &[u8])] = &[
+    (b"ab", Ok(()), b"ab"),
+    (b"cdefg", Err(SinkFault::Failed), b"abcd"),
+    (b"", Ok(()), b"abcd"),
+    (b"h", Err(SinkFault::Failed), b"abcd"),
+    (b"h", Ok(()), b"abcdh"),
+    (b"ij\n", Ok(()), b"abcdhij\n"),
+];
+
+#[test]
+fn a_put_that_fails_leaves_half_of_its_bytes(rt: HostRuntime) -> Result<(), Fail> {
+    let mut sink = failing_sink(rt.alloc())?;
+    for (bytes, end, taken) in PUTS {
+        assert!(rt; put_into(&mut sink, bytes) == *end, "at {taken:?}");
+        assert!(rt; sink.bytes() == *taken, "at {taken:?}");
     }
-    assert_eq!(rt; sink.puts(), [2, 5, 0, 1, 1, 3].as_slice());
+    assert!(rt; sink.puts() == [2, 5, 0, 1, 1, 3].as_slice());
     Ok(())
 }

@@ -1,19 +1,15 @@
+ghost use Rattle.std.specs.Prelude.{◌≡◌, ◌<◌, true, false, IfOk};
+ghost use Rattle.host_disk.specs.MemDisk.{mem_mounted};
+
 use crate::{PublishFault, publish_items};
-use byte_kit::Bytes;
+use byte_kit::{Bytes, NoMemory};
 use forensic_path::{Class, Classed, Decoder, Feature, Kind, Path, Step, Steps};
-use host_disk::{Disk, DiskCall, MemDisk};
+use host_disk::{Disk, DiskCall, DiskFault, MemDisk};
 use std::alloc::Global;
 use std::test::Fail;
 
-// A feature at a place of the image, behind some Base64 steps.
-fn found(
-    alloc: Global,
-    class: Class,
-    kind: Kind,
-    (top, steps): (u64, u64),
-    feature: &[u8],
-    context: &[u8],
-) -> Result<Classed, Fail> {
+// A path behind some Base64 steps.
+fn path(alloc: Global, top: u64, steps: u64) -> Result<Path, NoMemory> {
     let mut list = Steps::make(alloc);
     for _ in 0..steps {
         list.add(Step {
@@ -21,17 +17,25 @@ fn found(
             at: 7,
         })?;
     }
+    Ok(Path { top, steps: list })
+}
+
+// A feature: its class, its kind, its place of the image and the count of its Base64 steps, and its texts.
+type Row = (Class, Kind, (u64, u64), &'static str, &'static str);
+
+fn found(alloc: Global, row: &Row) -> Result<Classed, NoMemory> {
+    let (class, kind, (top, steps), feature, context) = *row;
     let item = Feature {
         kind,
-        path: Path { top, steps: list },
-        feature: Bytes::copy(alloc, feature)?,
-        context: Bytes::copy(alloc, context)?,
+        path: path(alloc, top, steps)?,
+        feature: Bytes::copy(alloc, feature.as_bytes())?,
+        context: Bytes::copy(alloc, context.as_bytes())?,
     };
     Ok(Classed { class, item })
 }
 
 // URLs and domains of all classes, and a plain feature of each other kind.
-static FOUND: [(Class, Kind, (u64, u64), &str, &str); 13] = [
+const FOUND: &[Row] = &[
     (
         Class::Plain,
         Kind::Url,
@@ -59,34 +63,55 @@ static FOUND: [(Class, Kind, (u64, u64), &str, &str); 13] = [
     (Class::Plain, Kind::Url, (100, 1), "http://a.b", ""),
 ];
 
-fn features(alloc: Global) -> Result<Vec<Classed>, Fail> {
+fn features(alloc: Global) -> Result<Vec<Classed>, NoMemory> {
     let mut items = Vec::new(alloc);
-    for (class, kind, place, feature, context) in FOUND {
-        items.push(found(
-            alloc,
-            class,
-            kind,
-            place,
-            feature.as_bytes(),
-            context.as_bytes(),
-        )?)?;
+    for row in FOUND {
+        items.push(found(alloc, row)?)?;
     }
     Ok(items)
 }
 
-// A disk with bytes in the files 1 to 3, on which a report was written; the named calls fail.
+// Sets a file of a disk that isn't mounted.
+fn set(disk: &mut MemDisk, file: u32, text: &str) -> Result<(), NoMemory>
+    requires file { file < 64 }
+    requires fresh { mem_mounted disk.old ≡ false }
+    ensures { mem_mounted disk.new ≡ false }
+{
+    if text.len() > 100 {
+        return Err(NoMemory);
+    }
+    disk.set_file(file, text.as_bytes())
+}
+
+// A disk that isn't mounted, with bytes in the files 1 to 3.
+fn filled(alloc: Global) -> Result<MemDisk, NoMemory>
+    ensures { IfOk result (λ disk. mem_mounted disk ≡ false) }
+{
+    let mut disk = MemDisk::make(alloc);
+    set(&mut disk, 1, "first")?;
+    set(&mut disk, 2, "second")?;
+    set(&mut disk, 3, "third")?;
+    Ok(disk)
+}
+
+// The same, mounted; the named calls fail.
+fn mounted(alloc: Global, fails: &[u64]) -> Result<MemDisk, DiskFault>
+    ensures { IfOk result (λ disk. mem_mounted disk ≡ true) }
+{
+    let mut disk = filled(alloc)?;
+    disk.fail_calls(fails)?;
+    disk.mount("place")?;
+    Ok(disk)
+}
+
+// The same after a report was written to it, and how that ended.
 fn published(
     alloc: Global,
     items: &[Classed],
     scanners: u16,
     fails: &[u64],
-) -> Result<(MemDisk, Result<(), PublishFault>), Fail> {
-    let mut disk = MemDisk::make(alloc);
-    disk.set_file(1, b"first")?;
-    disk.set_file(2, b"second")?;
-    disk.set_file(3, b"third")?;
-    disk.fail_calls(fails)?;
-    disk.mount("place")?;
+) -> Result<(MemDisk, Result<(), PublishFault>), DiskFault> {
+    let mut disk = mounted(alloc, fails)?;
     let result = publish_items(alloc, &mut disk, items, scanners);
     Ok((disk, result))
 }
@@ -140,91 +165,169 @@ fn files_are(disk: &MemDisk, texts: &[&str; 6]) -> bool {
     true
 }
 
+// Scanners, the texts of the files 1 to 6, and how many calls are made.
+const REPORTS: &[(u16, [&str; 6], usize)] = &[
+    (
+        31,
+        [URLS, DOMAINS, ADDRESSES, HARDWARE, EXECUTABLES, UNREAD],
+        19,
+    ),
+    (3, [URLS, DOMAINS, "third", "", "", ""], 7),
+    (1, [URLS, "second", "third", "", "", ""], 4),
+    (20, ["first", "second", ADDRESSES, HARDWARE, "", UNREAD], 10),
+    (0, ["first", "second", "third", "", "", ""], 1),
+];
+
+// The report by the scanners has these texts, and is written by so many calls.
+fn writes(
+    alloc: Global,
+    items: &[Classed],
+    scanners: u16,
+    texts: &[&str; 6],
+    calls: usize,
+) -> Result<bool, DiskFault> {
+    let (disk, result) = published(alloc, items, scanners, &[])?;
+    Ok(result == Ok(()) && files_are(&disk, texts) && disk.calls().len() == calls)
+}
+
 #[test]
 fn each_file_has_the_lines_of_its_kind(rt: HostRuntime) -> Result<(), Fail> {
-    let alloc = rt.alloc();
-    let items = features(alloc)?;
-    let all = [URLS, DOMAINS, ADDRESSES, HARDWARE, EXECUTABLES, UNREAD];
-    let cases = [
-        (31, all, 19),
-        (3, [URLS, DOMAINS, "third", "", "", ""], 7),
-        (1, [URLS, "second", "third", "", "", ""], 4),
-        (20, ["first", "second", ADDRESSES, HARDWARE, "", UNREAD], 10),
-        (0, ["first", "second", "third", "", "", ""], 1),
-    ];
-    for (scanners, texts, calls) in cases {
-        let (disk, result) = published(alloc, items.as_slice(), scanners, &[])?;
-        assert_eq!(rt; result, Ok(()));
-        assert!(rt; files_are(&disk, &texts), "by {scanners}");
-        assert_eq!(rt; disk.calls().len(), calls);
+    let items = features(rt.alloc())?;
+    for (scanners, texts, calls) in REPORTS {
+        let is_so = writes(rt.alloc(), items.as_slice(), *scanners, texts, *calls)?;
+        assert!(rt; is_so, "by {scanners}");
     }
     Ok(())
 }
 
-// The calls that write a report of which the URLs are written at these places, so many bytes each.
-fn calls(alloc: Global, writes: &[(u64, u64)]) -> Result<Vec<DiskCall>, Fail> {
-    let mut calls = Vec::new(alloc);
-    calls.push(DiskCall::Mount)?;
-    calls.push(DiskCall::Cut { file: 1, to: 0 })?;
-    calls.push(DiskCall::Cut { file: 2, to: 0 })?;
-    for (at, bytes) in writes {
-        calls.push(DiskCall::Write {
-            file: 1,
-            at: *at,
-            bytes: *bytes,
-        })?;
-    }
-    calls.push(DiskCall::Write {
+// The calls ahead of the writes of the URLs, and those behind them.
+const AHEAD: &[DiskCall] = &[
+    DiskCall::Mount,
+    DiskCall::Cut { file: 1, to: 0 },
+    DiskCall::Cut { file: 2, to: 0 },
+];
+
+const BEHIND: &[DiskCall] = &[
+    DiskCall::Write {
         file: 2,
         at: 0,
         bytes: 85,
-    })?;
-    calls.push(DiskCall::Sync { file: 1 })?;
-    calls.push(DiskCall::Sync { file: 2 })?;
-    Ok(calls)
+    },
+    DiskCall::Sync { file: 1 },
+    DiskCall::Sync { file: 2 },
+];
+
+// The calls write to file 1 at these places, so many bytes each.
+fn write_urls(calls: &[DiskCall], places: &[(u64, u64)]) -> bool {
+    if calls.len() != places.len() {
+        return false;
+    }
+    for i in 0..calls.len() {
+        let (at, bytes) = places[i];
+        if calls[i] != (DiskCall::Write { file: 1, at, bytes }) {
+            return false;
+        }
+    }
+    true
 }
+
+// The calls are those that write a report of which the URLs are written at these places.
+fn are_made(calls: &[DiskCall], places: &[(u64, u64)]) -> bool {
+    match calls.strip_prefix(AHEAD) {
+        Some(rest) => match rest.strip_suffix(BEHIND) {
+            Some(middle) => write_urls(middle, places),
+            None => false,
+        },
+        None => false,
+    }
+}
+
+const FRONT: &[u8] =
+    b"# triage feature file, format 1\n# file: url.txt\n# columns: path, feature, context\n0\t";
+
+// The file has the lines of a URL at place 0 and of `u` at place 1.
+fn has_lines(file: &[u8], url: &[u8]) -> bool {
+    match file.strip_prefix(FRONT) {
+        Some(rest) => match rest.strip_prefix(url) {
+            Some(end) => end == b"\t\n1\tu\t\n".as_slice(),
+            None => false,
+        },
+        None => false,
+    }
+}
+
+// So many letters.
+fn letters(alloc: Global, bytes: usize) -> Result<Vec<u8>, NoMemory> {
+    let mut url = Vec::new(alloc);
+    url.resize(bytes, b'u')?;
+    Ok(url)
+}
+
+// A plain URL.
+fn url_at(alloc: Global, top: u64, url: &[u8]) -> Result<Classed, NoMemory> {
+    let item = Feature {
+        kind: Kind::Url,
+        path: path(alloc, top, 0)?,
+        feature: Bytes::copy(alloc, url)?,
+        context: Bytes::copy(alloc, b"")?,
+    };
+    Ok(Classed {
+        class: Class::Plain,
+        item,
+    })
+}
+
+// A URL at place 0, and `u` at place 1.
+fn urls(alloc: Global, url: &[u8]) -> Result<Vec<Classed>, NoMemory> {
+    let mut items = Vec::new(alloc);
+    items.push(url_at(alloc, 0, url)?)?;
+    items.push(url_at(alloc, 1, b"u")?)?;
+    Ok(items)
+}
+
+// The lines of a URL and of `u` are written by writes at these places.
+fn writes_pieces(alloc: Global, url: &[u8], places: &[(u64, u64)]) -> Result<bool, DiskFault> {
+    let items = urls(alloc, url)?;
+    let (disk, result) = published(alloc, items.as_slice(), 3, &[])?;
+    Ok(result == Ok(()) && are_made(disk.calls(), places) && has_lines(disk.file(1), url))
+}
+
+// The bytes of a URL, and where the pieces of its file are written. The header has 82 bytes, the first line
+// 4 more than its URL, and the second line 5. A piece has at most 131,072: the first line fills it, passes
+// it by one, or is longer than a piece.
+const PIECES: &[(usize, &[(u64, u64)])] = &[
+    (130_986, &[(0, 131_072), (131_072, 5)]),
+    (130_987, &[(0, 82), (82, 130_996)]),
+    (131_069, &[(0, 82), (82, 131_073), (131_155, 5)]),
+];
 
 #[test]
 fn pieces_are_written_behind_one_another(rt: HostRuntime) -> Result<(), Fail> {
-    let alloc = rt.alloc();
-
-    // The header has 82 bytes, the first line 4 more than its URL, and the second line 5. A piece has
-    // at most 131,072: the first line fills it, passes it by one, or is longer than a piece.
-    let cases: [(usize, &[(u64, u64)]); 3] = [
-        (130_986, &[(0, 131_072), (131_072, 5)]),
-        (130_987, &[(0, 82), (82, 130_996)]),
-        (131_069, &[(0, 82), (82, 131_073), (131_155, 5)]),
-    ];
-    for (bytes, writes) in cases {
-        let mut url = Vec::new(alloc);
-        url.resize(bytes, b'u')?;
-        let items = [
-            found(alloc, Class::Plain, Kind::Url, (0, 0), url.as_slice(), b"")?,
-            found(alloc, Class::Plain, Kind::Url, (1, 0), b"u", b"")?,
-        ];
-        let (disk, result) = published(alloc, &items, 3, &[])?;
-        assert_eq!(rt; result, Ok(()));
-        assert_eq!(rt; disk.calls(), calls(alloc, writes)?.as_slice());
-
-        let mut text = Vec::new(alloc);
-        text.extend_from_slice(b"# triage feature file, format 1\n# file: url.txt\n")?;
-        text.extend_from_slice(b"# columns: path, feature, context\n0\t")?;
-        text.extend_from_slice(url.as_slice())?;
-        text.extend_from_slice(b"\t\n1\tu\t\n")?;
-        assert!(rt; disk.file(1) == text.as_slice());
+    for (bytes, places) in PIECES {
+        let url = letters(rt.alloc(), *bytes)?;
+        assert!(rt;
+            writes_pieces(rt.alloc(), url.as_slice(), places)?,
+            "of {bytes}"
+        );
     }
     Ok(())
+}
+
+// The report ends at this call, which fails.
+fn ends_at(alloc: Global, items: &[Classed], call: u64) -> Result<bool, DiskFault> {
+    let (disk, result) = published(alloc, items, 3, &[call])?;
+    Ok(
+        result == Err(PublishFault::Disk)
+            && disk.calls().len() as u64 == call.saturating_add(1)
+            && disk.file(3) == b"third".as_slice(),
+    )
 }
 
 #[test]
 fn a_failing_call_ends_the_report(rt: HostRuntime) -> Result<(), Fail> {
-    let alloc = rt.alloc();
-    let items = features(alloc)?;
-    for call in 1..7u64 {
-        let (disk, result) = published(alloc, items.as_slice(), 3, &[call])?;
-        assert_eq!(rt; result, Err(PublishFault::Disk));
-        assert_eq!(rt; disk.calls().len() as u64, call + 1);
-        assert_eq!(rt; disk.file(3), b"third".as_slice());
+    let items = features(rt.alloc())?;
+    for call in 1..7 {
+        assert!(rt; ends_at(rt.alloc(), items.as_slice(), call)?, "at {call}");
     }
     Ok(())
 }

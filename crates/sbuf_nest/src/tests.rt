@@ -6,88 +6,151 @@ ghost use Rattle.sbuf_nest.specs.Marks.{marked};
 use crate::{Found, LOOK_AFTER, Look, Mark, Places, Sbuf, Search, find_marks};
 use byte_kit::NoMemory;
 use forensic_path::Kind;
+use std::alloc::Global;
 use std::test::Fail;
+
+// The bytes on either side of place `i` are these.
+fn sees(sb: &Sbuf, i: usize, before: &[u8], after: &[u8]) -> bool {
+    if i >= sb.len() {
+        return false;
+    }
+    let look = sb.look(i);
+    look.before == before && look.after == after
+}
+
+const LOOKS: &[(usize, &str, &str)] = &[
+    (0, "", "0123456789"),
+    (4, "0123", "456789"),
+    (9, "012345678", "9"),
+];
 
 #[test]
 fn a_look_is_the_bytes_on_either_side(rt: HostRuntime) {
     let sb = Sbuf::of(b"0123456789", 4, 8, 100);
-    for (i, before, after) in [
-        (0, "", "0123456789"),
-        (4, "0123", "456789"),
-        (9, "012345678", "9"),
-    ] {
-        let look = sb.look(i);
-        assert_eq!(rt; look.before, before.as_bytes(), "at {i}");
-        assert_eq!(rt; look.after, after.as_bytes(), "at {i}");
+    for (i, before, after) in LOOKS {
+        assert!(rt;
+            sees(&sb, *i, before.as_bytes(), after.as_bytes()),
+            "at {i}"
+        );
     }
 }
 
+// Bytes of which a look sees neither all ahead nor all behind: `ab`, dots, and `z`.
+fn long(alloc: Global) -> Result<Vec<u8>, NoMemory> {
+    let mut bytes = Vec::from_slice(alloc, b"ab")?;
+    bytes.resize(LOOK_AFTER + 129, b'.')?;
+    bytes.push(b'z')?;
+    Ok(bytes)
+}
+
+// So many bytes stand ahead of place `i`, of which this is the first.
+fn sees_ahead(sb: &Sbuf, i: usize, count: usize, first: u8) -> bool {
+    if i >= sb.len() {
+        return false;
+    }
+    let before = sb.look(i).before;
+    before.len() == count && before.first() == Some(&first)
+}
+
 #[test]
-fn a_look_has_at_most_128_bytes_ahead_and_131072_from_its_place_on(
-    rt: HostRuntime,
-) -> Result<(), Fail> {
-    let mut bytes = Vec::new(rt.alloc());
-    bytes.resize(LOOK_AFTER + 130, b'.')?;
-    let last = bytes.len() - 1;
-    bytes[0] = b'a';
-    bytes[1] = b'b';
-    bytes[last] = b'z';
+fn a_look_has_at_most_128_bytes_ahead(rt: HostRuntime) -> Result<(), Fail> {
+    let bytes = long(rt.alloc())?;
     let sb = Sbuf::child(bytes.as_slice());
     for (i, count, first) in [(127, 127, b'a'), (128, 128, b'a'), (129, 128, b'b')] {
-        let before = sb.look(i).before;
-        assert_eq!(rt; before.len(), count, "at {i}");
-        assert_eq!(rt; before.first(), Some(&first), "at {i}");
+        assert!(rt; sees_ahead(&sb, i, count, first), "at {i}");
     }
-    for (i, count, end) in [
+    Ok(())
+}
+
+// So many bytes stand from place `i` on, of which this is the last.
+fn sees_behind(sb: &Sbuf, i: usize, count: usize, last: u8) -> bool {
+    if i >= sb.len() {
+        return false;
+    }
+    let after = sb.look(i).after;
+    after.len() == count && after.last() == Some(&last)
+}
+
+#[test]
+fn a_look_has_at_most_131072_bytes_from_its_place_on(rt: HostRuntime) -> Result<(), Fail> {
+    let bytes = long(rt.alloc())?;
+    let sb = Sbuf::child(bytes.as_slice());
+    for (i, count, last) in [
         (129, 131072, b'.'),
         (130, 131072, b'z'),
         (131, 131071, b'z'),
     ] {
-        let after = sb.look(i).after;
-        assert_eq!(rt; after.len(), count, "at {i}");
-        assert_eq!(rt; after.last(), Some(&end), "at {i}");
+        assert!(rt; sees_behind(&sb, i, count, last), "at {i}");
     }
     Ok(())
+}
+
+// The buffer has so many bytes, and owns these from `from` up to `to`.
+fn owns(sb: &Sbuf, len: usize, from: usize, to: usize, own: &[u8]) -> bool {
+    sb.len() == len && sb.own_from() == from && sb.own_to() == to && sb.own() == own
+}
+
+// The bytes from `from` up to `to` are these.
+fn has_part(sb: &Sbuf, from: usize, to: usize, bytes: &[u8]) -> bool {
+    from <= to && to <= sb.len() && sb.part(from, to) == bytes
+}
+
+// Place `i` is this place of the image.
+fn stands_at(sb: &Sbuf, i: usize, place: u64) -> bool {
+    i <= sb.len() && sb.place(i) == place
 }
 
 #[test]
 fn a_buffer_knows_its_own_places_and_where_they_stand(rt: HostRuntime) {
     let sb = Sbuf::of(b"0123456789", 4, 8, 100);
-    assert_eq!(rt; (sb.len(), sb.own_from(), sb.own_to()), (10, 4, 8));
-    assert_eq!(rt; sb.own(), b"4567".as_slice());
-    assert_eq!(rt; sb.part(1, 4), b"123".as_slice());
-    assert_eq!(rt; sb.part(10, 10), b"".as_slice());
-    assert_eq!(rt; (sb.place(0), sb.place(9), sb.place(10)), (100, 109, 110));
+    assert!(rt; owns(&sb, 10, 4, 8, b"4567"));
+    assert!(rt; has_part(&sb, 1, 4, b"123") && has_part(&sb, 10, 10, b""));
+    assert!(rt; stands_at(&sb, 0, 100) && stands_at(&sb, 9, 109) && stands_at(&sb, 10, 110));
+}
 
+#[test]
+fn a_value_owns_all_its_places(rt: HostRuntime) {
     let value = Sbuf::child(b"abc");
-    assert_eq!(rt; (value.len(), value.own_from(), value.own_to()), (3, 0, 3));
-    assert_eq!(rt; value.own(), b"abc".as_slice());
-    assert_eq!(rt; value.place(2), 2);
+    assert!(rt; owns(&value, 3, 0, 3, b"abc"));
+    assert!(rt; stands_at(&value, 2, 2));
+}
+
+const FIRST: Mark = Mark {
+    at: 9,
+    kind: Kind::Domain,
+    which: 0,
+    extent: 3,
+};
+
+const SECOND: Mark = Mark {
+    at: 2,
+    kind: Kind::Find,
+    which: 65535,
+    extent: 256,
+};
+
+fn add_both(found: &mut Found) -> Result<(), NoMemory> {
+    found.add(FIRST)?;
+    found.add(SECOND)
 }
 
 #[test]
 fn marks_stay_in_the_order_in_which_they_were_added(rt: HostRuntime) -> Result<(), Fail> {
-    let first = Mark {
-        at: 9,
-        kind: Kind::Domain,
-        which: 0,
-        extent: 3,
-    };
-    let second = Mark {
-        at: 2,
-        kind: Kind::Find,
-        which: 65535,
-        extent: 256,
-    };
     let mut found = Found::make(rt.alloc());
-    assert_eq!(rt; found.marks(), [].as_slice());
-    found.add(first)?;
-    found.add(second)?;
-    assert_eq!(rt; found.marks(), [first, second].as_slice());
+    assert!(rt; found.marks().is_empty());
+    add_both(&mut found)?;
+    assert!(rt; found.marks() == [FIRST, SECOND].as_slice());
+    Ok(())
+}
+
+#[test]
+fn marks_that_are_cleared_are_gone(rt: HostRuntime) -> Result<(), Fail> {
+    let mut found = Found::make(rt.alloc());
+    add_both(&mut found)?;
     found.clear();
-    assert_eq!(rt; found.marks(), [].as_slice());
-    found.add(second)?;
-    assert_eq!(rt; found.marks(), [second].as_slice());
+    assert!(rt; found.marks().is_empty());
+    found.add(SECOND)?;
+    assert!(rt; found.marks() == [SECOND].as_slice());
     Ok(())
 }
 
@@ -141,26 +204,47 @@ fn find(at: usize, which: u16) -> Mark {
     }
 }
 
+// A byte, the owned places, how many places are judged, and the marks: their places and numbers.
+type Row = (u8, usize, usize, u64, &'static [(usize, u16)]);
+
+const SEARCHES: &[Row] = &[
+    (b'a', 0, 6, 2, &[(0, 0), (0, 1), (5, 0), (5, 1)]),
+    (b'b', 0, 6, 2, &[(2, 0), (2, 1), (3, 0), (3, 1)]),
+    (b'b', 3, 6, 1, &[(3, 0), (3, 1)]),
+    (b'a', 1, 5, 0, &[]),
+    (b'a', 0, 0, 0, &[]),
+];
+
+// The marks stand at these places and have these numbers, and there are no others.
+fn are(marks: &[Mark], want: &[(usize, u16)]) -> bool {
+    if marks.len() != want.len() {
+        return false;
+    }
+    for i in 0..marks.len() {
+        let (at, which) = want[i];
+        if marks[i] != find(at, which) {
+            return false;
+        }
+    }
+    true
+}
+
+// A search of `a.bb.a` for the byte finds the row's marks.
+fn finds(alloc: Global, row: &Row) -> Result<bool, NoMemory> {
+    let (byte, from, to, judged, want) = *row;
+    if from > to || to > 6 {
+        return Ok(false);
+    }
+    let mut search = ByteSearch { byte, judged: 0 };
+    let mut found = Found::make(alloc);
+    find_marks(&Sbuf::of(b"a.bb.a", from, to, 0), &mut search, &mut found)?;
+    Ok(search.judged == judged && are(found.marks(), want))
+}
+
 #[test]
 fn a_search_marks_the_owned_places_and_judges_few(rt: HostRuntime) -> Result<(), Fail> {
-    let text = b"a.bb.a";
-    let first = [find(0, 0), find(0, 1), find(5, 0), find(5, 1)];
-    let second = [find(2, 0), find(2, 1), find(3, 0), find(3, 1)];
-    let rows = [
-        (b'a', 0, 6, 2, first.as_slice()),
-        (b'b', 0, 6, 2, second.as_slice()),
-        (b'b', 3, 6, 1, &second[2..]),
-        (b'a', 1, 5, 0, &[]),
-        (b'a', 0, 0, 0, &[]),
-    ];
-    for (byte, from, to, judged, marks) in rows {
-        if from <= to && to <= text.len() {
-            let mut search = ByteSearch { byte, judged: 0 };
-            let mut found = Found::make(rt.alloc());
-            find_marks(&Sbuf::of(text, from, to, 0), &mut search, &mut found)?;
-            assert_eq!(rt; found.marks(), marks, "at {from} to {to}");
-            assert_eq!(rt; search.judged, judged, "at {from} to {to}");
-        }
+    for row in SEARCHES {
+        assert!(rt; finds(rt.alloc(), row)?, "at {} to {}", row.1, row.2);
     }
     Ok(())
 }

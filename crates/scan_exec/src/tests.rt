@@ -31,22 +31,45 @@ fn elf_file(class: u8, order: u8, version: u8, numbers: [u8; 4]) -> [u8; 20] {
     ]
 }
 
+// A class, a byte order, a version, the bytes of a type and a machine, and the text of the header.
+type Elf = (u8, u8, u8, [u8; 4], &'static str);
+
+const ELF_FILES: &[Elf] = &[
+    (
+        2,
+        1,
+        1,
+        [2, 0, 0x3e, 0],
+        "ELF class=64 order=little type=2 machine=62",
+    ),
+    (
+        1,
+        2,
+        1,
+        [0, 2, 1, 2],
+        "ELF class=32 order=big type=2 machine=258",
+    ),
+    (3, 1, 1, [2, 0, 0x3e, 0], ""),
+    (2, 3, 1, [2, 0, 0x3e, 0], ""),
+    (2, 1, 2, [2, 0, 0x3e, 0], ""),
+];
+
+// The header shows its text.
+fn shows_elf(alloc: Global, row: &Elf) -> Result<bool, NoMemory> {
+    let (class, order, version, numbers, text) = *row;
+    let file = elf_file(class, order, version, numbers);
+    shows(alloc, &file, text, 20)
+}
+
 #[test]
 fn an_elf_header_shows_its_class_order_type_and_machine(rt: HostRuntime) -> Result<(), Fail> {
-    let text = "ELF class=64 order=little type=2 machine=62";
-    let big = "ELF class=32 order=big type=2 machine=258";
-    let rows = [
-        (2, 1, 1, [2, 0, 0x3e, 0], text),
-        (1, 2, 1, [0, 2, 1, 2], big),
-        (3, 1, 1, [2, 0, 0x3e, 0], ""),
-        (2, 3, 1, [2, 0, 0x3e, 0], ""),
-        (2, 1, 2, [2, 0, 0x3e, 0], ""),
-    ];
-    for (class, order, version, numbers, text) in rows {
-        let file = elf_file(class, order, version, numbers);
+    for row in ELF_FILES {
         assert!(rt;
-            shows(rt.alloc(), &file, text, 20)?,
-            "at {class} {order} {version}"
+            shows_elf(rt.alloc(), row)?,
+            "at {} {} {}",
+            row.0,
+            row.1,
+            row.2
         );
     }
     let file = elf_file(2, 1, 1, [2, 0, 0x3e, 0]);
@@ -68,37 +91,54 @@ fn pe_file(alloc: Global, at: u32, bytes: usize) -> Result<Vec<u8>, NoMemory> {
     Ok(file)
 }
 
+const PE_TEXT: &str = "PE machine=332 sections=3 time=305419896";
+
+// The place of the header, how many bytes the file has, and its text.
+const PE_FILES: &[(u32, usize, &str)] = &[
+    (64, 76, PE_TEXT),
+    (64, 75, ""),
+    (63, 200, ""),
+    (4096, 4108, PE_TEXT),
+    (4097, 4200, ""),
+];
+
+// The file shows the text.
+fn shows_pe(alloc: Global, at: u32, bytes: usize, text: &str) -> Result<bool, NoMemory> {
+    let file = pe_file(alloc, at, bytes)?;
+    shows(alloc, file.as_slice(), text, 64)
+}
+
 #[test]
 fn a_pe_header_stands_64_to_4096_bytes_behind_the_front(rt: HostRuntime) -> Result<(), Fail> {
-    let text = "PE machine=332 sections=3 time=305419896";
-    let rows = [
-        (64, 76, text),
-        (64, 75, ""),
-        (63, 200, ""),
-        (4096, 4108, text),
-        (4097, 4200, ""),
-    ];
-    for (at, bytes, text) in rows {
-        let file = pe_file(rt.alloc(), at, bytes)?;
+    for (at, bytes, text) in PE_FILES {
         assert!(rt;
-            shows(rt.alloc(), file.as_slice(), text, 64)?,
+            shows_pe(rt.alloc(), *at, *bytes, text)?,
             "at {at} of {bytes}"
         );
     }
     Ok(())
 }
 
+// Bytes, and the text and the extent of the file that begins there: no text where none does.
+const UNREAD: &[(&[u8], &[u8], u32)] = &[
+    (b"\x1f\x8b\x08\0", b"gzip", 3),
+    (b"\x1f\x8b", b"", 0),
+    (b"PK\x03\x04", b"zip", 4),
+    (b"PK\x03", b"", 0),
+    (b"PK\x01\x02", b"", 0),
+];
+
+// The bytes begin with a file of this text and extent.
+fn shows_unread(bytes: &[u8], text: &[u8], extent: u32) -> bool {
+    match unread_at(&place(bytes)) {
+        Some(unread) => unread.text() == text && unread.extent() == extent,
+        None => text.is_empty(),
+    }
+}
+
 #[test]
 fn gzip_and_zip_are_known_by_their_signatures(rt: HostRuntime) {
-    let rows = [
-        (b"\x1f\x8b\x08\0".as_slice(), Some((b"gzip".as_slice(), 3))),
-        (b"\x1f\x8b", None),
-        (b"PK\x03\x04", Some((b"zip", 4))),
-        (b"PK\x03", None),
-        (b"PK\x01\x02", None),
-    ];
-    for (bytes, want) in rows {
-        let shown = unread_at(&place(bytes)).map(|unread| (unread.text(), unread.extent()));
-        assert!(rt; shown == want, "at {bytes:?}");
+    for (bytes, text, extent) in UNREAD {
+        assert!(rt; shows_unread(bytes, text, *extent), "at {bytes:?}");
     }
 }

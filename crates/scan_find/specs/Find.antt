@@ -2,7 +2,7 @@
 use Rattle.std.specs.Prelude.{ℕ, ◌==◌, nat_eq, List, length, take, Option, Some, None, option_and_then, if◌then◌else◌}
 use Rattle.std.specs.List.{starts_with}
 use Rattle.sbuf_nest.specs.Around.{Around}
-use Rattle.scan_find.specs.declared.TheConstants.{PATTERN_REACH}
+use Rattle.pattern_kit.specs.declared.TheConstants.{PATTERN_REACH}
 
 -- the length of the keyword, where its bytes stand at the place
 unfoldable pub keyword_of : List ℕ → Around → Option ℕ

@@ -1,1 +1,6 @@
+pub mod Chains
 pub mod Find
+pub mod Front
+pub mod Hits
+pub mod Lengths
+pub mod Marks

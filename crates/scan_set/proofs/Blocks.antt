@@ -82,38 +82,38 @@ below_said end look place (mark ∷ marks) (shape ∷ found) lt says =
 
 -- ---- the marks of a run of places
 
-module _ (plan : ScanPlan) (built : IsBuilt plan) (bytes : List ℕ) where
-  features_of_places : (base first count : ℕ) → owned [] plan 0 [] bytes base first count ≡ map (marked_feature plan bytes base) (marks_of (marks_at plan) bytes first count)
+module _ (patterns : List (List ℕ → Option ℕ)) (plan : ScanPlan) (bytes : List ℕ) where
+  features_of_places : (base first count : ℕ) → owned patterns plan 0 [] bytes base first count ≡ map (marked_feature plan bytes base) (marks_of (marks_at patterns plan) bytes first count)
   unfolding owned here marks_of
   features_of_places base first zero = refl
   features_of_places base first (suc count) =
-      let marks = marks_at plan (look_at bytes first) first in
-      let this = features_said plan bytes base first marks (shapes [] plan (look_at bytes first)) (marks_say plan (look_at bytes first) first built) in
-      ap (λ rest. map (feature_of plan (look_at bytes first) (path_at [] (base + first))) (shapes [] plan (look_at bytes first)) ++ rest) (features_of_places base (first + 1) count)
-      ∙ ap (λ front. front ++ map (marked_feature plan bytes base) (marks_of (marks_at plan) bytes (first + 1) count)) (sym this)
-      ∙ sym (map-append (marked_feature plan bytes base) marks (marks_of (marks_at plan) bytes (first + 1) count))
+      let marks = marks_at patterns plan (look_at bytes first) first in
+      let this = features_said plan bytes base first marks (shapes patterns plan (look_at bytes first)) (marks_say plan (look_at bytes first) first patterns) in
+      ap (λ rest. map (feature_of plan (look_at bytes first) (path_at [] (base + first))) (shapes patterns plan (look_at bytes first)) ++ rest) (features_of_places base (first + 1) count)
+      ∙ ap (λ front. front ++ map (marked_feature plan bytes base) (marks_of (marks_at patterns plan) bytes (first + 1) count)) (sym this)
+      ∙ sym (map-append (marked_feature plan bytes base) marks (marks_of (marks_at patterns plan) bytes (first + 1) count))
 
   -- each mark gives its feature, and there is no other
-  owned_marked : (base first count : ℕ) → owned [] plan plan.depth [] bytes base first count ≡ map (marked_feature plan bytes base) (marks_of (marks_at plan) bytes first count)
-  owned_marked base first count = ap (λ (depth : ℕ). owned [] plan depth [] bytes base first count) built.depth ∙ features_of_places base first count
+  owned_marked : IsBuilt plan → (base first count : ℕ) → owned patterns plan plan.depth [] bytes base first count ≡ map (marked_feature plan bytes base) (marks_of (marks_at patterns plan) bytes first count)
+  owned_marked built base first count = ap (λ (depth : ℕ). owned patterns plan depth [] bytes base first count) built.depth ∙ features_of_places base first count
 
   -- each event gives its feature, and there is no other
-  pub owned_events : (base first count : ℕ) → owned [] plan plan.depth [] bytes base first count ≡ map (event_feature plan bytes base) (map own_event (marks_of (marks_at plan) bytes first count))
-  owned_events base first count =
-      owned_marked base first count ∙ sym (map-map (event_feature plan bytes base) own_event (marks_of (marks_at plan) bytes first count))
+  pub owned_events : IsBuilt plan → (base first count : ℕ) → owned patterns plan plan.depth [] bytes base first count ≡ map (event_feature plan bytes base) (map own_event (marks_of (marks_at patterns plan) bytes first count))
+  owned_events built base first count =
+      owned_marked built base first count ∙ sym (map-map (event_feature plan bytes base) own_event (marks_of (marks_at patterns plan) bytes first count))
 
-  below_places : (end first count : ℕ) → first + count ≤ end → All (λ (mark : Mark). mark.at < end) (marks_of (marks_at plan) bytes first count)
+  below_places : (end first count : ℕ) → first + count ≤ end → All (λ (mark : Mark). mark.at < end) (marks_of (marks_at patterns plan) bytes first count)
   unfolding marks_of
   below_places end first zero within = All-nil (λ (mark : Mark). mark.at < end)
   below_places end first (suc count) within =
       let look = look_at bytes first in
-      All-append (λ (mark : Mark). mark.at < end) (marks_at plan look first) (marks_of (marks_at plan) bytes (first + 1) count)
-      (below_said end look first (marks_at plan look first) (shapes [] plan look) (omega arith) (marks_say plan look first built))
+      All-append (λ (mark : Mark). mark.at < end) (marks_at patterns plan look first) (marks_of (marks_at patterns plan) bytes (first + 1) count)
+      (below_said end look first (marks_at patterns plan look first) (shapes patterns plan look) (omega arith) (marks_say plan look first patterns))
       (below_places end (first + 1) count (omega arith))
 
   -- each of the events of a run is at one of the buffer's places
   pub place_below : (first count : ℕ) (events : List Event) (i : ℕ) (other : Event) → first + count ≤ length bytes →
-      events ≡ map own_event (marks_of (marks_at plan) bytes first count) → i < length events → (get_or events i other).at < length bytes
+      events ≡ map own_event (marks_of (marks_at patterns plan) bytes first count) → i < length events → (get_or events i other).at < length bytes
   place_below first count events i other within all lt =
       let P : Event → Type 0 = λ event. event.at < length bytes in
       All-get_or P events i other lt (subst (All P) (sym all) (All-map P own_event _ (below_places (length bytes) first count within)))

@@ -1,11 +1,19 @@
--- What a plan may ask for so far.
-use Rattle.std.specs.Prelude.{◌≡◌, false}
-use Rattle.forensic_path.specs.declared.scanner.Scanner.TheVariants as scanner
-use Rattle.forensic_path.specs.Scanners.{is_on}
+-- What a plan may ask for so far, and which plans are lawful.
+use Rattle.std.specs.Prelude.{◌≡◌, ◌≤◌, length}
+use Rattle.std.specs.List.{All}
+use Rattle.scan_find.specs.Marks.{IsText}
+use Rattle.scan_find.specs.declared.TheConstants.{KEYWORDS_MOST}
+use Rattle.scan_wordlist.specs.declared.TheConstants.{WORD_MOST}
 use Rattle.scan_set.specs.declared.plan.ScanPlan.{ScanPlan}
 
--- no scanner is on that is not searched for yet, and no decoded bytes are searched
+-- no decoded bytes are searched
 pub record IsBuilt (plan : ScanPlan) : Type 0 where
-  pub find : is_on plan.scanners scanner.Find ≡ false
-  pub word : is_on plan.scanners scanner.Word ≡ false
   pub depth : plan.depth ≡ 0
+
+-- there are at most 64 keywords, each of 1 to 256 bytes, and a word has 1 to 256 bytes
+pub record IsLawful (plan : ScanPlan) : Type 0 where
+  pub keywords : length plan.keywords ≤ KEYWORDS_MOST
+  pub texts : All IsText plan.keywords
+  pub least : 1 ≤ plan.word_min
+  pub ordered : plan.word_min ≤ plan.word_max
+  pub most : plan.word_max ≤ WORD_MOST

@@ -13,6 +13,8 @@ use Rattle.scan_net.specs.Marks.{packet_marks}
 use Rattle.scan_net.specs.Packet.{Addresses, ip_of, ether_of}
 use Rattle.scan_exec.specs.Marks.{exec_marks}
 use Rattle.scan_exec.specs.Exec.{Header, exec_of, unread_of}
+use Rattle.scan_find.specs.Marks.{given_marks}
+use Rattle.scan_wordlist.specs.Marks.{word_marks}
 use Rattle.scan_set.specs.Shapes.{Shape, when}
 use Rattle.scan_set.specs.Here.{feature_of}
 use Rattle.scan_set.specs.declared.plan.ScanPlan.{ScanPlan}
@@ -27,9 +29,17 @@ packets_at plan look place = when (is_on plan.scanners scanner.Net) (packet_mark
 abbrev pub execs_at : ScanPlan → Around → ℕ → List Mark
 execs_at plan look place = exec_marks (is_on plan.scanners scanner.Exec) (is_on plan.scanners scanner.Unread) look place
 
+abbrev pub given_at : List (List ℕ → Option ℕ) → ScanPlan → Around → ℕ → List Mark
+given_at patterns plan look place = when (is_on plan.scanners scanner.Find) (given_marks plan.keywords patterns look place)
+
+abbrev pub words_at : ScanPlan → Around → ℕ → List Mark
+words_at plan look place = when (is_on plan.scanners scanner.Word) (word_marks plan.word_min plan.word_max look place)
+
 -- the marks of a place by all of them, in the order of their kinds
-abbrev pub marks_at : ScanPlan → Around → ℕ → List Mark
-marks_at plan look place = urls_at plan look place ++ packets_at plan look place ++ execs_at plan look place
+abbrev pub marks_at : List (List ℕ → Option ℕ) → ScanPlan → Around → ℕ → List Mark
+marks_at patterns plan look place =
+    urls_at plan look place ++ packets_at plan look place ++ execs_at plan look place ++ given_at patterns plan look place
+    ++ words_at plan look place
 
 -- the first of a header's addresses, or the second one
 abbrev pub address_text : ℕ → Option Addresses → List ℕ

@@ -1,8 +1,8 @@
 //! All scanners together: what a scan finds in a buffer. Each place is judged by its Look alone, and
 //! the features of one place stand in the order of their kinds.
 //!
-//! A `ScanPlan` says what a scan looks for, `Tools` are the lists that it works with, and
-//! `scan_owned` makes the features of the places that a buffer owns, each with its forensic path and
+//! A `ScanPlan` says what a scan looks for, `Tools` are the matchers and the lists that it works with,
+//! and `scan_owned` makes the features of the places that a buffer owns, each with its forensic path and
 //! its context.
 //!
 //! The promise: `scan_owned` answers exactly the features that `specs/Here.antt` gives those places, in

@@ -9,6 +9,7 @@ ghost use Rattle.scan_set.specs.Merged.{ahead, behind};
 use crate::event::Event;
 use byte_kit::NoMemory;
 use sbuf_nest::{Found, Mark};
+use scan_find::Lengths;
 use std::alloc::Global;
 use std::mem;
 
@@ -21,6 +22,8 @@ pub(crate) struct Lists {
     pub(crate) found: Found,
     // Room to merge.
     pub(crate) spare: Vec<Event>,
+    // What the patterns match, place by place.
+    pub(crate) lengths: Lengths,
 }
 
 impl Lists {
@@ -30,6 +33,7 @@ impl Lists {
             events: Vec::new(alloc),
             found: Found::make(alloc),
             spare: Vec::new(alloc),
+            lengths: Lengths::make(alloc),
         }
     }
 

@@ -1,9 +1,13 @@
-ghost use Rattle.scan_set.specs.Built.{IsBuilt};
+ghost use Rattle.std.specs.Prelude.{IfOk};
+ghost use Rattle.scan_set.specs.Built.{IsBuilt, IsLawful};
 
 use crate::{ScanPlan, Tools, scan_owned};
-use byte_kit::{Names, Texts};
-use forensic_path::{Feature, Kind};
+use byte_kit::{Bytes, Names, NoMemory, Texts};
+use forensic_path::Feature;
+use forensic_path::Kind::{self, Domain, Ether, Exec, Find, Ip, Unread, Url, Word};
+use pattern_kit::{Kit, WordKit, WordMatcher};
 use sbuf_nest::Sbuf;
+use scan_find::{PATTERNS_MOST, TEXT_MOST};
 use std::alloc::Global;
 use std::test::Fail;
 
@@ -18,7 +22,123 @@ const EXEC: u16 = 8;
 
 const UNREAD: u16 = 16;
 
-const ALL: u16 = 31;
+const FIND: u16 = 32;
+
+const WORD: u16 = 64;
+
+const ALL: u16 = 127;
+
+// What a scan is asked for: the bits of the scanners, how many bytes of context, a keyword, or none
+// where it is empty, and patterns.
+type Asked = (u16, u16, &'static [u8], &'static [&'static str]);
+
+// A feature by its kind, how far behind some place it stands, and its text.
+type Row = (Kind, u64, &'static str);
+
+// A buffer, which of its places are owned, what is asked, its features, and the contexts of those in
+// front of them.
+type Case = (
+    &'static [u8],
+    (usize, usize),
+    Asked,
+    &'static [Row],
+    &'static [&'static str],
+);
+
+fn plan_of(alloc: Global, asked: Asked) -> Result<ScanPlan, NoMemory>
+    ensures built { IfOk result (λ plan. IsBuilt plan) }
+    ensures lawful { IfOk result (λ plan. IsLawful plan) }
+{
+    let (scanners, context, keyword, _) = asked;
+    let mut keywords = Texts::make(alloc);
+    if !keyword.is_empty() && keyword.len() <= TEXT_MOST {
+        keywords.add(Bytes::copy(alloc, keyword)?)?;
+    }
+    Ok(ScanPlan {
+        scanners,
+        depth: 0,
+        mask: 0,
+        word_min: 6,
+        word_max: 14,
+        context,
+        keywords,
+        patterns: Names::make(alloc),
+    })
+}
+
+fn matchers_of(alloc: Global, patterns: &[&str]) -> Result<Vec<WordMatcher>, NoMemory> {
+    let mut kit = WordKit::make(0);
+    let mut matchers = Vec::new(alloc);
+    for pattern in patterns {
+        match kit.build(alloc, 0, pattern) {
+            Ok(matcher) => matchers.push(matcher)?,
+            Err(_) => return Err(NoMemory),
+        }
+    }
+    Ok(matchers)
+}
+
+// The features of the second of two scans by the same tools.
+fn scanned(alloc: Global, sb: &Sbuf, asked: Asked) -> Result<Vec<Feature>, NoMemory> {
+    let plan = plan_of(alloc, asked)?;
+    let matchers = matchers_of(alloc, asked.3)?;
+    if matchers.len() > PATTERNS_MOST {
+        return Ok(Vec::new(alloc));
+    }
+    let mut tools = Tools::make(alloc, &plan, matchers)?;
+    scan_owned(sb, &plan, &mut tools)?;
+    scan_owned(sb, &plan, &mut tools)
+}
+
+// The features are these, in this order, each at a path of one place.
+fn are(features: &[Feature], place: u64, want: &[Row]) -> bool {
+    features.len() == want.len()
+        && features.iter().zip(want.iter()).all(|(found, row)| {
+            found.kind == row.0
+                && found.path.top.wrapping_sub(place) == row.1
+                && found.path.steps.items().is_empty()
+                && found.feature.as_slice() == row.2.as_bytes()
+        })
+}
+
+// These are the contexts of the features in front.
+fn have(features: &[Feature], contexts: &[&str]) -> bool {
+    features.iter().zip(contexts.iter()).all(|(found, context)| found.context.as_slice()
+        == context.as_bytes())
+}
+
+// The number of the first case that fails.
+fn failing(alloc: Global, cases: &[Case]) -> Result<Option<usize>, NoMemory> {
+    for (number, case) in cases.iter().enumerate() {
+        let (bytes, (from, to), asked, rows, contexts) = *case;
+        if from > to || to > bytes.len() || bytes.len() > 1024 {
+            return Ok(Some(number));
+        }
+        let features = scanned(alloc, &Sbuf::of(bytes, from, to, 1000), asked)?;
+        if !are(features.as_slice(), 1000, rows) || !have(features.as_slice(), contexts) {
+            return Ok(Some(number));
+        }
+    }
+    Ok(None)
+}
+
+// The features of a text that stands between blanks, so many of them ahead of it, and so many bytes in
+// all, are these.
+fn are_between_blanks(
+    alloc: Global,
+    text: &[u8],
+    ahead: usize,
+    length: usize,
+    asked: Asked,
+    rows: &[Row],
+) -> Result<bool, NoMemory> {
+    let mut bytes = Vec::new(alloc);
+    bytes.resize(ahead, b' ')?;
+    bytes.extend_from_slice(text)?;
+    bytes.resize(length, b' ')?;
+    let features = scanned(alloc, &Sbuf::child(bytes.as_slice()), asked)?;
+    Ok(are(features.as_slice(), ahead as u64, rows))
+}
 
 // An IPv4 header of 192.168.0.1 to 192.168.0.199.
 const PACKET: &[u8] = b"\x45\0\0\x73\0\0\x40\0\x40\x11\xb8\x61\xc0\xa8\0\x01\xc0\xa8\0\xc7";
@@ -26,215 +146,283 @@ const PACKET: &[u8] = b"\x45\0\0\x73\0\0\x40\0\x40\x11\xb8\x61\xc0\xa8\0\x01\xc0
 // An ELF header.
 const ELF: &[u8] = b"\x7fELF\x02\x01\x01\0\0\0\0\0\0\0\0\0\x02\0\x3e\0";
 
-// A plan for the scanners whose bits are set, of the first five.
-fn plan_of(alloc: Global, scanners: u16, context: u16) -> ScanPlan
-    ensures { IsBuilt result }
-{
-    ScanPlan {
-        scanners: scanners % 32,
-        depth: 0,
-        mask: 0,
-        word_min: 6,
-        word_max: 14,
-        context,
-        keywords: Texts::make(alloc),
-        patterns: Names::make(alloc),
-    }
-}
-
-// A feature by its kind, how far behind some place it stands, and its text.
-type Row = (Kind, u64, &'static str);
-
-// The features are these, in this order, each at a path of one place.
-fn are(features: &[Feature], place: u64, want: &[Row]) -> bool {
-    if features.len() != want.len() {
-        return false;
-    }
-    features.iter().zip(want.iter()).all(|(found, row)| {
-        found.kind == row.0
-            && found.path.top.wrapping_sub(place) == row.1
-            && found.path.steps.items().is_empty()
-            && found.feature.as_slice() == row.2.as_bytes()
-    })
-}
+const ACROSS: [(&[u8], Asked, &[Row]); 6] = [
+    (
+        b"http://a.b/ ",
+        (URL | DOMAIN, 16, b"", &[]),
+        &[(Url, 0, "http://a.b/"), (Domain, 7, "a.b")],
+    ),
+    (
+        PACKET,
+        (NET, 16, b"", &[]),
+        &[(Ip, 0, "192.168.0.1"), (Ip, 0, "192.168.0.199")],
+    ),
+    (
+        ELF,
+        (EXEC, 16, b"", &[]),
+        &[(Exec, 0, "ELF class=64 order=little type=2 machine=62")],
+    ),
+    (
+        b"\x1f\x8b\x08PK\x03\x04",
+        (UNREAD, 16, b"", &[]),
+        &[(Unread, 0, "gzip"), (Unread, 3, "zip")],
+    ),
+    (
+        b"a needle",
+        (FIND, 16, b"a needle", &["needle"]),
+        &[(Find, 0, "a needle"), (Find, 2, "needle")],
+    ),
+    (
+        b"strawberry",
+        (WORD, 16, b"", &[]),
+        &[(Word, 0, "strawberry")],
+    ),
+];
 
 #[test]
-fn each_scan_by_the_same_tools_finds_once_what_lies_across_a_border(
-    rt: HostRuntime,
-) -> Result<(), Fail> {
-    let rows: [(&[u8], &[Row]); 4] = [
-        (
-            b"http://a.b/ ",
-            &[(Kind::Url, 0, "http://a.b/"), (Kind::Domain, 7, "a.b")],
-        ),
-        (
-            PACKET,
-            &[(Kind::Ip, 0, "192.168.0.1"), (Kind::Ip, 0, "192.168.0.199")],
-        ),
-        (
-            ELF,
-            &[(Kind::Exec, 0, "ELF class=64 order=little type=2 machine=62")],
-        ),
-        (
-            b"\x1f\x8b\x08PK\x03\x04",
-            &[(Kind::Unread, 0, "gzip"), (Kind::Unread, 3, "zip")],
-        ),
-    ];
-    let plan = plan_of(rt.alloc(), ALL, 16);
-    let mut tools = Tools::make(rt.alloc(), &plan)?;
-    for (text, want) in rows {
-        for at in 65515..65538 {
-            let mut bytes = Vec::new(rt.alloc());
-            bytes.resize(at, b'.')?;
-            bytes.extend_from_slice(text)?;
-            bytes.resize(65600, b'.')?;
-            let features = scan_owned(&Sbuf::child(bytes.as_slice()), &plan, &mut tools)?;
-            assert!(rt; are(features.as_slice(), at as u64, want), "at {at}");
+fn what_lies_across_a_border_of_blocks_is_found_once(rt: HostRuntime) -> Result<(), Fail> {
+    for (text, asked, want) in ACROSS {
+        for ahead in [65516, 65526, 65533, 65534, 65535, 65536, 65537] {
+            assert!(rt;
+                are_between_blanks(rt.alloc(), text, ahead, 65600, asked, want)?,
+                "at {ahead}"
+            );
         }
     }
     Ok(())
 }
 
+const WORDS_ALONE: Asked = (WORD, 0, b"", &[]);
+
+const BERRY: [Row; 1] = [(Word, 0, "strawberry")];
+
 #[test]
-fn the_features_of_a_place_are_those_of_the_scanners_that_are_on_in_the_order_of_kinds(
-    rt: HostRuntime,
-) -> Result<(), Fail> {
-    let url = (Kind::Url, 0, "http://a.b/c");
-    let domain = (Kind::Domain, 7, "a.b");
-    let from = (Kind::Ip, 14, "192.168.0.1");
-    let to = (Kind::Ip, 14, "192.168.0.199");
-    let exec = (
-        Kind::Exec,
-        0,
-        "ELF class=64 order=little type=29440 machine=0",
-    );
-    // Each of the twelve bytes of the two addresses of an Ethernet header that stands ahead of `PACKET`.
-    let rows: [([u8; 12], u16, &[Row]); 12] = [
-        (
-            *b"http://a.b/c",
-            ALL,
-            &[
-                url,
-                (Kind::Ether, 0, "68:74:74:70:3a:2f"),
-                (Kind::Ether, 0, "2f:61:2e:62:2f:63"),
-                domain,
-                from,
-                to,
-            ],
-        ),
-        (*b"http://a.b/c", URL, &[url]),
-        (*b"http://a.b/c", DOMAIN, &[domain]),
-        (*b"http://a.b/c", URL | DOMAIN, &[url, domain]),
-        (*b"http://a.b/c", EXEC | UNREAD, &[]),
-        (
-            *b"\x7fELF\x02\x01\x01\0\0\0\0\0",
-            ALL,
-            &[
-                (Kind::Ether, 0, "7f:45:4c:46:02:01"),
-                (Kind::Ether, 0, "01:00:00:00:00:00"),
-                exec,
-                from,
-                to,
-            ],
-        ),
-        (*b"\x7fELF\x02\x01\x01\0\0\0\0\0", EXEC, &[exec]),
-        (*b"\x7fELF\x02\x01\x01\0\0\0\0\0", URL | UNREAD, &[]),
-        (
-            *b"\x1f\x8b\x08\0\0\0\0\0\0\0\0\0",
-            NET | UNREAD,
-            &[
-                (Kind::Ether, 0, "1f:8b:08:00:00:00"),
-                (Kind::Ether, 0, "00:00:00:00:00:00"),
-                (Kind::Unread, 0, "gzip"),
-                from,
-                to,
-            ],
-        ),
-        (
-            *b"\x1f\x8b\x08\0\0\0\0\0\0\0\0\0",
-            UNREAD,
-            &[(Kind::Unread, 0, "gzip")],
-        ),
-        // An IPv4 header where an Ethernet header is.
-        (
-            *b"\x45\0\0\x14\0\0\0\0\x40\x11\x2d\x67",
-            ALL,
-            &[
-                (Kind::Ip, 0, "8.0.69.0"),
-                (Kind::Ip, 0, "0.115.0.0"),
-                (Kind::Ether, 0, "45:00:00:14:00:00"),
-                (Kind::Ether, 0, "00:00:40:11:2d:67"),
-                from,
-                to,
-            ],
-        ),
-        (*b"\x45\0\0\x14\0\0\0\0\x40\x11\x2d\x67", 0, &[]),
-    ];
-    for (addresses, scanners, want) in rows {
-        let mut bytes = Vec::from_slice(rt.alloc(), &addresses)?;
-        bytes.extend_from_slice(b"\x08\0")?;
-        bytes.extend_from_slice(PACKET)?;
-        let plan = plan_of(rt.alloc(), scanners, 16);
-        let mut tools = Tools::make(rt.alloc(), &plan)?;
-        let features = scan_owned(&Sbuf::child(bytes.as_slice()), &plan, &mut tools)?;
-        assert!(rt;
-            are(features.as_slice(), 0, want),
-            "{scanners} at {addresses:?}"
-        );
-    }
+fn a_word_between_blanks_is_found_where_it_begins(rt: HostRuntime) -> Result<(), Fail> {
+    let found = are_between_blanks(rt.alloc(), b"strawberry", 508, 1024, WORDS_ALONE, &BERRY)?;
+    assert!(rt; found);
     Ok(())
 }
+
+// An Ethernet header with the bytes of some other shape as its addresses, and an IPv4 header behind it.
+const MIXED: &[u8] =
+    b"http://a.b/c\x08\0\x45\0\0\x73\0\0\x40\0\x40\x11\xb8\x61\xc0\xa8\0\x01\xc0\xa8\0\xc7";
+
+const ELF_MIXED: &[u8] =
+    b"\x7fELF\x02\x01\x01\0\0\0\0\0\x08\0\x45\0\0\x73\0\0\x40\0\x40\x11\xb8\x61\xc0\xa8\0\x01\xc0\xa8\0\xc7";
+
+const GZIP_MIXED: &[u8] =
+    b"\x1f\x8b\x08\0\0\0\0\0\0\0\0\0\x08\0\x45\0\0\x73\0\0\x40\0\x40\x11\xb8\x61\xc0\xa8\0\x01\xc0\xa8\0\xc7";
+
+const IP_MIXED: &[u8] =
+    b"\x45\0\0\x14\0\0\0\0\x40\x11\x2d\x67\x08\0\x45\0\0\x73\0\0\x40\0\x40\x11\xb8\x61\xc0\xa8\0\x01\xc0\xa8\0\xc7";
+
+const ORDERED: [Case; 10] = [
+    (
+        MIXED,
+        (0, 34),
+        (ALL, 0, b"http", &["http:"]),
+        &[
+            (Url, 0, "http://a.b/c"),
+            (Ether, 0, "68:74:74:70:3a:2f"),
+            (Ether, 0, "2f:61:2e:62:2f:63"),
+            (Find, 0, "http"),
+            (Find, 0, "http:"),
+            (Word, 0, "http://a.b/c"),
+            (Domain, 7, "a.b"),
+            (Ip, 14, "192.168.0.1"),
+            (Ip, 14, "192.168.0.199"),
+        ],
+        &["http://a.b/c"],
+    ),
+    (
+        MIXED,
+        (0, 34),
+        (URL, 0, b"http", &["http:"]),
+        &[(Url, 0, "http://a.b/c")],
+        &[],
+    ),
+    (
+        MIXED,
+        (0, 34),
+        (DOMAIN, 0, b"http", &["http:"]),
+        &[(Domain, 7, "a.b")],
+        &[],
+    ),
+    (
+        MIXED,
+        (0, 34),
+        (FIND, 0, b"http", &["http:"]),
+        &[(Find, 0, "http"), (Find, 0, "http:")],
+        &[],
+    ),
+    (
+        MIXED,
+        (0, 34),
+        (WORD, 0, b"http", &["http:"]),
+        &[(Word, 0, "http://a.b/c")],
+        &[],
+    ),
+    (
+        MIXED,
+        (0, 34),
+        (EXEC | UNREAD, 0, b"http", &["http:"]),
+        &[],
+        &[],
+    ),
+    (
+        ELF_MIXED,
+        (0, 34),
+        (NET | EXEC | FIND, 0, b"\x7fELF", &[]),
+        &[
+            (Ether, 0, "7f:45:4c:46:02:01"),
+            (Ether, 0, "01:00:00:00:00:00"),
+            (Exec, 0, "ELF class=64 order=little type=29440 machine=0"),
+            (Find, 0, "\x7fELF"),
+            (Ip, 14, "192.168.0.1"),
+            (Ip, 14, "192.168.0.199"),
+        ],
+        &[],
+    ),
+    (
+        GZIP_MIXED,
+        (0, 34),
+        (NET | UNREAD, 0, b"", &[]),
+        &[
+            (Ether, 0, "1f:8b:08:00:00:00"),
+            (Ether, 0, "00:00:00:00:00:00"),
+            (Unread, 0, "gzip"),
+            (Ip, 14, "192.168.0.1"),
+            (Ip, 14, "192.168.0.199"),
+        ],
+        &[],
+    ),
+    (
+        IP_MIXED,
+        (0, 34),
+        (NET, 0, b"", &[]),
+        &[
+            (Ip, 0, "8.0.69.0"),
+            (Ip, 0, "0.115.0.0"),
+            (Ether, 0, "45:00:00:14:00:00"),
+            (Ether, 0, "00:00:40:11:2d:67"),
+            (Ip, 14, "192.168.0.1"),
+            (Ip, 14, "192.168.0.199"),
+        ],
+        &[],
+    ),
+    (IP_MIXED, (0, 34), (0, 0, b"E", &["E"]), &[], &[]),
+];
+
+#[test]
+fn a_place_has_the_features_of_the_scanners_that_are_on_in_the_order_of_kinds(
+    rt: HostRuntime,
+) -> Result<(), Fail> {
+    assert_eq!(rt; failing(rt.alloc(), &ORDERED)?, None);
+    Ok(())
+}
+
+const OWNED: [Case; 6] = [
+    (
+        b"http://a.b/?u=http://c.d/",
+        (0, 25),
+        (URL | DOMAIN, 0, b"", &[]),
+        &[
+            (Url, 0, "http://a.b/?u=http://c.d/"),
+            (Domain, 7, "a.b"),
+            (Url, 14, "http://c.d/"),
+            (Domain, 21, "c.d"),
+        ],
+        &[],
+    ),
+    (
+        b"http://a.b/?u=http://c.d/",
+        (1, 21),
+        (URL | DOMAIN, 0, b"", &[]),
+        &[(Domain, 7, "a.b"), (Url, 14, "http://c.d/")],
+        &[],
+    ),
+    (
+        b"http://a.b/?u=http://c.d/",
+        (7, 8),
+        (URL | DOMAIN, 0, b"", &[]),
+        &[(Domain, 7, "a.b")],
+        &[],
+    ),
+    (
+        b"http://a.b/?u=http://c.d/",
+        (8, 14),
+        (URL | DOMAIN, 0, b"", &[]),
+        &[],
+        &[],
+    ),
+    (
+        b"http://a.b/?u=http://c.d/",
+        (7, 7),
+        (ALL, 0, b"a", &["a"]),
+        &[],
+        &[],
+    ),
+    (b"a strawberry", (4, 12), (WORD, 0, b"", &[]), &[], &[]),
+];
 
 #[test]
 fn only_the_owned_places_have_features(rt: HostRuntime) -> Result<(), Fail> {
-    let text = b"http://a.b/?u=http://c.d/";
-    let first = (Kind::Url, 0, "http://a.b/?u=http://c.d/");
-    let first_domain = (Kind::Domain, 7, "a.b");
-    let second = (Kind::Url, 14, "http://c.d/");
-    let second_domain = (Kind::Domain, 21, "c.d");
-    let rows: [((usize, usize), &[Row]); 5] = [
-        ((0, 25), &[first, first_domain, second, second_domain]),
-        ((1, 21), &[first_domain, second]),
-        ((7, 8), &[first_domain]),
-        ((8, 14), &[]),
-        ((7, 7), &[]),
-    ];
-    for ((from, to), want) in rows {
-        if from <= to && to <= text.len() {
-            let sb = Sbuf::of(text, from, to, 1000);
-            let plan = plan_of(rt.alloc(), ALL, 16);
-            let mut tools = Tools::make(rt.alloc(), &plan)?;
-            let features = scan_owned(&sb, &plan, &mut tools)?;
-            assert!(rt; are(features.as_slice(), 1000, want), "at {from} to {to}");
-        }
-    }
+    assert_eq!(rt; failing(rt.alloc(), &OWNED)?, None);
     Ok(())
 }
 
+const IN_CONTEXT: [Case; 6] = [
+    (
+        b"abc http://a.b/ def",
+        (4, 5),
+        (URL, 16, b"", &[]),
+        &[(Url, 4, "http://a.b/")],
+        &["abc http://a.b/ def"],
+    ),
+    (
+        b"abc http://a.b/ def",
+        (4, 5),
+        (URL, 2, b"", &[]),
+        &[(Url, 4, "http://a.b/")],
+        &["c http://a.b/ d"],
+    ),
+    (
+        b"abc http://a.b/ def",
+        (11, 12),
+        (DOMAIN, 5, b"", &[]),
+        &[(Domain, 11, "a.b")],
+        &["tp://a.b/ def"],
+    ),
+    (
+        b"abc http://a.b/ def",
+        (11, 12),
+        (DOMAIN, 0, b"", &[]),
+        &[(Domain, 11, "a.b")],
+        &["a.b"],
+    ),
+    (
+        b"xaab",
+        (0, 4),
+        (FIND, 1, b"aab", &["ab", "a"]),
+        &[
+            (Find, 1, "aab"),
+            (Find, 1, "a"),
+            (Find, 2, "ab"),
+            (Find, 2, "a"),
+        ],
+        &["xaab", "xaa", "aab", "aab"],
+    ),
+    (
+        b"xaab",
+        (0, 4),
+        (FIND, 0, b"", &["ab"]),
+        &[(Find, 2, "ab")],
+        &["ab"],
+    ),
+];
+
 #[test]
 fn a_context_ends_with_the_buffer_or_the_reach(rt: HostRuntime) -> Result<(), Fail> {
-    let text = b"abc http://a.b/ def";
-    let rows = [
-        ((4, 5), 16, "abc http://a.b/ def"),
-        ((4, 5), 2, "c http://a.b/ d"),
-        ((4, 5), 0, "http://a.b/"),
-        ((11, 12), 5, "tp://a.b/ def"),
-        ((11, 12), 0, "a.b"),
-    ];
-    for ((from, to), reach, want) in rows {
-        if from <= to && to <= text.len() {
-            let plan = plan_of(rt.alloc(), ALL, reach);
-            let mut tools = Tools::make(rt.alloc(), &plan)?;
-            let features = scan_owned(&Sbuf::of(text, from, to, 0), &plan, &mut tools)?;
-            assert_eq!(rt; features.len(), 1, "at {from} by {reach}");
-            for found in features.iter() {
-                assert_eq!(rt;
-                    found.context.as_slice(),
-                    want.as_bytes(),
-                    "at {from} by {reach}"
-                );
-            }
-        }
-    }
+    assert_eq!(rt; failing(rt.alloc(), &IN_CONTEXT)?, None);
     Ok(())
 }

@@ -2,10 +2,13 @@
 //! much one run finds. The difference in time between few runs and many is the speed of the search
 //! itself, without the start of a program and the reading of a file.
 //!
-//! SEARCH is `url` (URLs and domains), `net` (packets) or `exec` (executables and compressed files),
-//! which count marks, or `all`, which counts the features of a scan by every scanner that is built.
+//! SEARCH is `url` (URLs and domains), `net` (packets), `exec` (executables and compressed files), `find`
+//! (8 keywords, and `find1` or `find64` that many), `pattern` (4 patterns, and `pattern1` one) or `word`
+//! (words of 6 to 14 bytes), which count marks, or `all`, which counts the features of a scan by every
+//! scanner that is built but the one for words, without keywords and patterns.
 #![tactic(auto)]
 
+mod keywords;
 mod search;
 
 use crate::search::{Search, Searcher};

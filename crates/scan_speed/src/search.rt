@@ -1,19 +1,29 @@
 // The searches that are timed.
-ghost use Rattle.scan_set.specs.Built.{IsBuilt};
+ghost use Rattle.scan_set.specs.Built.{IsBuilt, IsLawful};
 
-use byte_kit::{Names, NoMemory, Texts};
+use crate::keywords::{KEYWORDS, PATTERNS};
+use byte_kit::{Bytes, Names, NoMemory, Texts};
+use pattern_kit::{Kit, RegexKit, RegexMatcher, WordMatcher};
 use sbuf_nest::{Found, Sbuf};
 use scan_exec::find_execs;
+use scan_find::{Lengths, PATTERNS_MOST, are_keywords, find_given_into};
 use scan_net::find_packets;
 use scan_set::{ScanPlan, Tools, scan_owned};
 use scan_url::find_urls;
+use scan_wordlist::find_words;
 use std::alloc::Global;
 
-// The scanners that are on in a search for everything, a bit each: every one that is built.
-const SCANNERS: u16 = 0x001F;
+// The scanners that are on in a search for everything, a bit each: every one that is built but the one
+// for words, which is mostly off.
+const SCANNERS: u16 = 0x003F;
 
 // How many bytes of context a feature has on either side.
 const CONTEXT_BYTES: u16 = 16;
+
+// The fewest bytes of a word, and the most.
+const WORD_LEAST: u16 = 6;
+
+const WORD_MOST: u16 = 14;
 
 /// What is searched for.
 #[derive(Clone, Copy)]
@@ -24,6 +34,12 @@ pub enum Search {
     Net,
     /// Executables and compressed files.
     Exec,
+    /// So many keywords, up to 64.
+    Find(usize),
+    /// So many patterns, up to 4.
+    Pattern(usize),
+    /// Words.
+    Word,
     /// All that a scan finds, as features with their paths and contexts.
     All,
 }
@@ -35,6 +51,12 @@ impl Search {
             "url" => Some(Search::Url),
             "net" => Some(Search::Net),
             "exec" => Some(Search::Exec),
+            "find1" => Some(Search::Find(1)),
+            "find" => Some(Search::Find(8)),
+            "find64" => Some(Search::Find(64)),
+            "pattern1" => Some(Search::Pattern(1)),
+            "pattern" => Some(Search::Pattern(4)),
+            "word" => Some(Search::Word),
             "all" => Some(Search::All),
             _ => None,
         }
@@ -44,10 +66,15 @@ impl Search {
 /// The lists that the searches fill, kept from one run to the next.
 #[derive(Drop)]
 pub struct Searcher {
+    alloc: Global,
     plan: ScanPlan,
-    tools: Tools,
+    tools: Tools<WordMatcher>,
+    keywords: Vec<Bytes>,
+    matchers: Vec<RegexMatcher>,
+    lengths: Lengths,
     found: Found,
     ghost built: { IsBuilt plan },
+    ghost lawful: { IsLawful plan },
 }
 
 impl Searcher {
@@ -57,16 +84,20 @@ impl Searcher {
             scanners: SCANNERS,
             depth: 0,
             mask: 0,
-            word_min: 6,
-            word_max: 14,
+            word_min: WORD_LEAST,
+            word_max: WORD_MOST,
             context: CONTEXT_BYTES,
             keywords: Texts::make(alloc),
             patterns: Names::make(alloc),
         };
-        let tools = Tools::make(alloc, &plan)?;
+        let tools = Tools::make(alloc, &plan, Vec::new(alloc))?;
         Ok(Searcher {
+            alloc,
             plan,
             tools,
+            keywords: keywords_of(alloc)?,
+            matchers: matchers_of(alloc)?,
+            lengths: Lengths::make(alloc),
             found: Found::make(alloc),
         })
     }
@@ -78,8 +109,53 @@ impl Searcher {
             Search::Url => find_urls(sb, true, true, &mut self.found)?,
             Search::Net => find_packets(sb, &mut self.found)?,
             Search::Exec => find_execs(sb, true, true, &mut self.found)?,
+            Search::Find(count) => self.find_keywords(count, sb)?,
+            Search::Pattern(count) => self.find_patterns(count, sb)?,
+            Search::Word => find_words(sb, WORD_LEAST, WORD_MOST, &mut self.found)?,
             Search::All => return Ok(scan_owned(sb, &self.plan, &mut self.tools)?.len()),
         }
         Ok(self.found.marks().len())
     }
+
+    // Searches the buffer for the first so many keywords.
+    fn find_keywords(&mut self, count: usize, sb: &Sbuf) -> Result<(), NoMemory> {
+        let all = self.keywords.as_slice();
+        let (keywords, _) = all.split_at(count.min(all.len()));
+        if !are_keywords(keywords) {
+            return Ok(());
+        }
+        let no_patterns: &mut [WordMatcher] = &mut [];
+        let (lengths, found) = (&mut self.lengths, &mut self.found);
+        find_given_into(self.alloc, sb, keywords, no_patterns, lengths, found)
+    }
+
+    // Searches the buffer for the first so many patterns.
+    fn find_patterns(&mut self, count: usize, sb: &Sbuf) -> Result<(), NoMemory> {
+        let count = count.min(self.matchers.len()).min(PATTERNS_MOST);
+        let (matchers, _) = self.matchers.as_mut_slice().split_at_mut(count);
+        let (lengths, found) = (&mut self.lengths, &mut self.found);
+        find_given_into(self.alloc, sb, &[], matchers, lengths, found)
+    }
+}
+
+// The keywords, as a search takes them.
+fn keywords_of(alloc: Global) -> Result<Vec<Bytes>, NoMemory> {
+    let mut keywords = Vec::new(alloc);
+    for text in KEYWORDS {
+        keywords.push(Bytes::copy(alloc, text.as_bytes())?)?;
+    }
+    Ok(keywords)
+}
+
+// The matchers of the patterns, of which none is refused.
+fn matchers_of(alloc: Global) -> Result<Vec<RegexMatcher>, NoMemory> {
+    let mut kit = RegexKit::make();
+    let mut matchers = Vec::new(alloc);
+    for text in PATTERNS {
+        let Ok(matcher) = kit.build(alloc, 0, text) else {
+            return Err(NoMemory);
+        };
+        matchers.push(matcher)?;
+    }
+    Ok(matchers)
 }

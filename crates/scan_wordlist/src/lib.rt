@@ -1,4 +1,19 @@
 //! Words for a word list: runs of visible ASCII of a length that the user sets.
 //!
-//! `specs/Word.antt` says when a word stands at a place; `proofs/Rows.antt` works examples of it.
+//! The promise: `word_len` is the length of the word at a place exactly as `specs/Word.antt` says, and
+//! `find_words` appends exactly the marks of `specs/Marks.antt` of the places that the buffer owns.
+//! `proofs/Rows.antt` works examples.
 #![tactic(auto)]
+
+mod filter;
+mod find;
+mod word;
+
+pub use find::find_words;
+pub use word::word_len;
+
+/// The most bytes that a word may be asked to have.
+pub const WORD_MOST: u16 = 256;
+
+#[cfg(test)]
+mod tests;

@@ -1,6 +1,6 @@
-//! The program `triage`. `main` makes a source over real files, a disk over a real folder and a sink over
-//! standard output, calls `triage_run::triage`, and ends with the number of its status. What the call puts
-//! is printed. Standard error has a line where a word is not UTF-8, and nothing else.
+//! The program `triage`. `main` makes a source over real files, a disk over a real folder, a kit that reads
+//! patterns as the `regex` crate does and a sink over standard output, calls `triage_run::triage`, and ends
+//! with the number of its status. What the call puts is printed. Standard error has a line where a word is not UTF-8, and nothing else.
 #![tactic(auto)]
 
 ghost use Rattle.std.specs.Prelude.{◌<◌, ◌^◌, length, vec_len, IfOk};
@@ -14,6 +14,7 @@ mod tests;
 use byte_kit::NoMemory;
 use file_source::FileSource;
 use folder_disk::FolderDisk;
+use pattern_kit::RegexKit;
 use std::process::ExitCode;
 use std::{env, io};
 use stdout_sink::StdoutSink;
@@ -79,5 +80,5 @@ fn outcome_of(rt: &HostRuntime, words: &[String]) -> Result<Status, NoMemory>
     sources.push(FileSource::make(alloc, rt.clone()?))?;
     let disk = FolderDisk::make(alloc, rt.clone()?);
     let sink = StdoutSink::make(rt.stdout());
-    Ok(triage(alloc, words, sources, disk, sink).status)
+    Ok(triage(alloc, words, sources, disk, RegexKit::make(), sink).status)
 }

@@ -1,18 +1,16 @@
 -- From the end of a scan to the end of its call, which puts a text behind it: what the one bears, the other bears.
-use Rattle.std.proofs.Common.{◌≡◌, inl, inr, sym, ap, subst, arith, ℕ, ◌<◌, List, Option, Some, None, option_map, Result, Ok, Err, IfOk, IfErr}
+use Rattle.std.proofs.Common.{◌≡◌, inl, inr, sym, ap, subst, arith, ℕ, ◌<◌, List, Option, Some, None, Result, Ok, Err, IfErr}
 use Rattle.std.specs.Prelude.{IfSome}
 use Rattle.triage_run.specs.declared.status.Status.{Status}
-use Rattle.triage_run.specs.declared.status.Status.TheVariants.{Done, Usage, ReadFault, DiskFault, OutFault, NoMemory, NotYet}
+use Rattle.triage_run.specs.declared.status.Status.TheVariants.{Done, Usage, ReadFault, PatternRefused, DiskFault, OutFault, NoMemory, NotYet}
 use Rattle.triage_run.specs.declared.status.ReadPlace.TheVariants.{Image, Page}
 use Rattle.triage_run.specs.declared.status.Unbuilt.TheVariants.{Parts, Size}
-use Rattle.report_publish.specs.declared.publish.TheConstants.{FILES_BUILT}
-use Rattle.triage_run.specs.Call.{Call, IsCause, IsExact, HasParts, found_text}
-use Rattle.triage_run.specs.Case.{case_of, no_match}
+use Rattle.triage_run.specs.Call.{Call, IsCause, IsExact, HasReadings, HasParts, HasFound, found_told}
 use Rattle.triage_run.specs.Status.{step_of, scanned_as, EndsAs, IsOrEarlier, IsBehind, IsRefusal}
-use Rattle.triage_run.specs.Steps.{any, attach, end}
+use Rattle.triage_run.specs.Steps.{any, build, attach, end}
 use Rattle.triage_run.specs.Words.{ScanWords}
 use Rattle.triage_run.specs.declared.words.BadWord.{BadWord}
-use Rattle.triage_run.specs.Text.{Counts, counts_of, counts_text, counts_told, text_of, IsPut}
+use Rattle.triage_run.specs.Text.{Counts, counts_text, counts_told, text_of, IsPut}
 
 -- what holds of the status of a scan, of want of memory, and of a sink that failed behind a scan that was done
 after : (P : Status → Type 0) (rose : Type 0) (scanned status : Status) → EndsAs rose scanned status →
@@ -40,8 +38,8 @@ or_earlier_after rose said scanned status some early ends hidden =
 
 -- ---- the answers
 
-module _ (call : Call) (rose : Type 0) (takes : List ℕ → Type 0) where
-  abbrev printed : Call
+module _ {R : Type 0} (call : Call R) (rose : Type 0) (takes : List ℕ → Type 0) where
+  abbrev printed : Call R
   printed = record call { sink_rose = rose; takes = takes }
 
   cause_kept : (call.sink_rose → rose) → (status : Status) → IsCause call status → IsCause printed status
@@ -50,15 +48,16 @@ module _ (call : Call) (rose : Type 0) (takes : List ℕ → Type 0) where
   cause_kept risen (Usage word why) cause = cause
   cause_kept risen (ReadFault Image) cause = cause
   cause_kept risen (ReadFault (Page page)) cause = cause
+  cause_kept risen (PatternRefused index) cause = cause
   cause_kept risen DiskFault cause = cause
-  cause_kept risen OutFault cause = (risen cause.0, cause.1, cause.2)
+  cause_kept risen OutFault cause = (risen cause.0, cause.1)
   cause_kept risen (NotYet Parts) cause = cause
   cause_kept risen (NotYet (Size bytes)) cause = record { one = cause.one; size = cause.size; large = cause.large }
 
   pub cause_after : (call.sink_rose → rose) → (scanned status : Status) → EndsAs rose scanned status → IsCause call scanned → IsCause printed status
   cause_after risen scanned status ends cause =
       after (IsCause printed) rose scanned status ends (cause_kept risen scanned cause) tt
-      (λ done failed. let left = subst (IsCause call) done cause in (failed, left.0, left.1))
+      (λ done failed. (failed, subst (IsCause call) done cause))
 
   pub exact_after : (scanned status : Status) → EndsAs rose scanned status → IsExact call scanned → IsExact printed status
   exact_after scanned status ends exact = record {
@@ -73,6 +72,9 @@ module _ (call : Call) (rose : Type 0) (takes : List ℕ → Type 0) where
       usage_after (Ok scan) hidden = tt
       usage_after (Err bad) hidden = or_earlier_after rose (Usage bad.word bad.why) scanned status (omega arith) (omega arith) ends hidden
 
+  pub readings_after : (scanned status : Status) → EndsAs rose scanned status → HasReadings call scanned → HasReadings printed status
+  readings_after scanned status ends readings = λ behind. readings (behind_after rose build scanned status ends behind)
+
   pub parts_after : (scanned status : Status) → EndsAs rose scanned status → HasParts call scanned → HasParts printed status
   parts_after scanned status ends parts = λ behind. parts (behind_after rose attach scanned status ends behind)
 
@@ -83,16 +85,23 @@ pub not_done : (rose : Type 0) (refusal status : Status) → IsRefusal refusal �
 not_done rose refusal status refused ends =
     after IsRefusal rose refusal status ends refused tt (λ done risen. absurd (subst IsRefusal done refused))
 
--- the text of what was found is that of the image, where this is told
-pub text_after : (rose : Type 0) (takes : List ℕ → Type 0) (image : Option (List ℕ)) (scanned : Result Counts Status) (status : Status) →
-    IfErr scanned IsRefusal → EndsAs rose (scanned_as scanned) status →
-    IfOk scanned (λ found. IfSome image (λ bytes. found ≡ counts_of no_match FILES_BUILT (case_of bytes))) →
+-- the text of what was found is that of the image, where a scan has one that is told
+pub text_after : {R : Type 0} (call : Call R) (rose : Type 0) (takes : List ℕ → Type 0) (scanned : Result Counts Status) (status : Status) →
+    IfErr scanned IsRefusal → EndsAs rose (scanned_as scanned) status → HasFound call scanned →
     IfSome (text_of (counts_told scanned) status) (IsPut takes rose status) →
-    IfSome (text_of (option_map found_text image) status) (IsPut takes rose status)
-text_after rose takes None (Ok found) Done refused ends is put = tt
-text_after rose takes None (Ok found) OutFault refused ends is put = tt
-text_after rose takes (Some image) (Ok found) Done refused ends is put = subst (λ f. IsPut takes rose Done (counts_text f)) is put
-text_after rose takes (Some image) (Ok found) OutFault refused ends is put = subst (λ f. IsPut takes rose OutFault (counts_text f)) is put
-text_after rose takes image (Err refusal) Done refused ends is put = absurd (not_done rose refusal Done refused ends)
-text_after rose takes image (Err refusal) OutFault refused ends is put = absurd (not_done rose refusal OutFault refused ends)
-text_after rose takes image scanned _ refused ends is put = put
+    IfSome (text_of (found_told call call.command) status) (IsPut takes rose status)
+text_after call rose takes scanned status refused ends found put = by_case call.command call.image scanned status refused ends found put
+  where
+    by_case : (command : Result ScanWords BadWord) (image : Option (List ℕ)) (scanned : Result Counts Status) (status : Status) →
+        IfErr scanned IsRefusal → EndsAs rose (scanned_as scanned) status → HasFound (record call { command = command; image = image }) scanned →
+        IfSome (text_of (counts_told scanned) status) (IsPut takes rose status) →
+        IfSome (text_of (found_told (record call { command = command; image = image }) command) status) (IsPut takes rose status)
+    by_case (Ok scan) None (Ok found) Done refused ends is put = tt
+    by_case (Ok scan) None (Ok found) OutFault refused ends is put = tt
+    by_case (Err bad) image (Ok found) Done refused ends is put = tt
+    by_case (Err bad) image (Ok found) OutFault refused ends is put = tt
+    by_case (Ok scan) (Some image) (Ok found) Done refused ends is put = subst (λ f. IsPut takes rose Done (counts_text f)) is put
+    by_case (Ok scan) (Some image) (Ok found) OutFault refused ends is put = subst (λ f. IsPut takes rose OutFault (counts_text f)) is put
+    by_case command image (Err refusal) Done refused ends is put = absurd (not_done rose refusal Done refused ends)
+    by_case command image (Err refusal) OutFault refused ends is put = absurd (not_done rose refusal OutFault refused ends)
+    by_case command image scanned _ refused ends is put = put

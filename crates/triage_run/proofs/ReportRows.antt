@@ -1,30 +1,47 @@
 -- Worked rows of whole report files, as laws that compute.
-use Rattle.std.specs.Prelude.{◌≡◌, ℕ, List, [], ◌∷◌, ◌++◌, codes, Option, Some, None, refl}
+use Rattle.std.specs.Prelude.{◌≡◌, ℕ, List, [], ◌∷◌, ◌++◌, ◌==◌, codes, Option, Some, None, refl, if◌then◌else◌}
 use Rattle.scan_set.specs.declared.plan.ScanPlan.{ScanPlan}
+use Rattle.std.specs.List.{prefix_len}
 use Rattle.scan_set.proofs.Shown.{shown}
 use Rattle.feature_escape.specs.Escape.{escape_of, unescape_lenient_of}
 use Rattle.stop_lists.specs.Lists.{entries_of, class_under}
 use Rattle.feature_file.specs.Files.{report_files}
 use Rattle.feature_file.specs.FeatureFile.{header_of, line_of, file_text}
 use Rattle.count_histogram.specs.Histogram.{rows_of, row_line_of, histogram_text}
-use Rattle.triage_run.specs.Case.{classed_of, report, case_of, no_match}
+use Rattle.triage_run.specs.Case.{classed_of, report, case_by}
+use Rattle.triage_run.specs.Plans.{plan_with}
 
 -- every scanner but that of words, as a scan has them by default
 abbrev default_plan : ScanPlan
 default_plan = record { scanners = 0x03BF; depth = 5; mask = 0; word_min = 6; word_max = 14; context = 16; keywords = []; patterns = [] }
 
+-- a pattern is plain data here: how long its match is
+abbrev is_match : (List ℕ → Option ℕ) → List ℕ → Option ℕ
+is_match pattern = pattern
+
 -- a report file of an image under a stop list and an alert list
 unfoldable file_under : List ℕ → List ℕ → List ℕ → ℕ → Option (List ℕ)
 unfolding shown escape_of unescape_lenient_of entries_of class_under report_files header_of line_of file_text rows_of row_line_of histogram_text classed_of report
 file_under stop alert image number =
-    report no_match (record { image = image; stop = stop; alert = alert; page = 16777216; plan = default_plan; readings = [] }) number
+    report is_match (record { image = image; stop = stop; alert = alert; page = 16777216; plan = default_plan; readings = [] }) number
 
 -- ---- what is built
 
 -- what the program writes for an image
 unfoldable built_file : List ℕ → ℕ → Option (List ℕ)
 unfolding shown escape_of entries_of class_under report_files header_of line_of file_text classed_of report
-built_file image number = report no_match (case_of image) number
+built_file image number = report is_match (case_by (plan_with [] []) [] image) number
+
+-- one `a` or more
+abbrev run_of_a : List ℕ → Option ℕ
+run_of_a bytes =
+    let run = prefix_len (λ byte. byte == 97) bytes in
+    if run == 0 then None else Some run
+
+-- what it writes for an image with one keyword and that pattern
+unfoldable found_file : List ℕ → List ℕ → Option (List ℕ)
+unfolding shown escape_of entries_of class_under report_files header_of line_of file_text classed_of report
+found_file keyword image = report is_match (case_by (plan_with (keyword ∷ []) (codes "a+" ∷ [])) (run_of_a ∷ []) image) 7
 
 a_url_with_its_context : built_file (codes "see http://example.com/a b") 1
     ≡ Some (codes "# triage feature file, format 1\n# file: url.txt\n# columns: path, feature, context\n4\thttp://example.com/a\tsee http://example.com/a b\n")
@@ -72,9 +89,15 @@ two_members_that_are_not_read : built_file (0x1f ∷ 0x8b ∷ 0x08 ∷ 0x50 ∷ 
 unfolding built_file
 two_members_that_are_not_read = refl
 
-keywords_are_not_written : built_file (codes "see http://example.com/a b") 7 ≡ None
+without_keywords_the_header_stands_alone : built_file (codes "see http://example.com/a b") 7
+    ≡ Some (codes "# triage feature file, format 1\n# file: find.txt\n# columns: path, feature, context\n")
 unfolding built_file
-keywords_are_not_written = refl
+without_keywords_the_header_stands_alone = refl
+
+a_keyword_comes_ahead_of_a_pattern : found_file (codes "aab") (codes "xaab")
+    ≡ Some (codes "# triage feature file, format 1\n# file: find.txt\n# columns: path, feature, context\n1\taab\txaab\n1\taa\txaab\n2\ta\txaab\n")
+unfolding found_file
+a_keyword_comes_ahead_of_a_pattern = refl
 
 -- ---- the whole report
 

@@ -9,7 +9,7 @@ use Rattle.feature_file.specs.Files.{is_written, is_histogram}
 use Rattle.feature_file.specs.FeatureFile.{file_text}
 use Rattle.count_histogram.specs.Histogram.{histogram_text}
 use Rattle.report_publish.specs.declared.publish.TheConstants.{FILES_BUILT}
-use Rattle.triage_run.specs.declared.plan.TheConstants.{SCANNERS_BUILT, CONTEXT_BYTES, WORD_FEWEST, WORD_MOST, PAGE_BYTES}
+use Rattle.triage_run.specs.declared.plan.TheConstants.{PAGE_BYTES}
 
 -- the input of a scan as plain data; a reading is what the text of a pattern was read as
 pub record Case (R : Type 0) : Type 0 where
@@ -46,20 +46,10 @@ abbrev pub joined : (List ℕ → Option (List ℕ)) → List (List ℕ) → Opt
 joined told [] = Some []
 joined told (name ∷ names) = option_and_then (λ bytes. option_map (λ rest. bytes ++ rest) (joined told names)) (told name)
 
--- ---- what is built
-
--- the plan of every scan: the scanners that are built in the image itself, with their context
-abbrev pub plan_built : ScanPlan
-plan_built = record { scanners = SCANNERS_BUILT; depth = 0; mask = 0; word_min = WORD_FEWEST; word_max = WORD_MOST; context = CONTEXT_BYTES; keywords = []; patterns = [] }
-
--- the case of an image
-abbrev pub case_of : List ℕ → Case (Unit {0})
-case_of image = record { image = image; stop = []; alert = []; page = PAGE_BYTES; plan = plan_built; readings = [] }
-
--- there are no patterns
-abbrev pub no_match : Unit {0} → List ℕ → Option ℕ
-no_match reading bytes = None
+-- the case of a plan, whose patterns were read so, and an image
+abbrev pub case_by : {R : Type 0} → ScanPlan → List R → List ℕ → Case R
+case_by plan readings image = record { image = image; stop = []; alert = []; page = PAGE_BYTES; plan = plan; readings = readings }
 
 -- the files that are built are the report of the image, as far as the image and the disk's files are told
-abbrev pub LeavesReport : Option (List ℕ) → Bool → Files → Type 0
-LeavesReport image tells files = IfSome image (λ bytes. IsTrue tells → AreReport no_match FILES_BUILT (case_of bytes) files)
+abbrev pub LeavesReport : {R : Type 0} → (R → List ℕ → Option ℕ) → (List ℕ → Case R) → Option (List ℕ) → Bool → Files → Type 0
+LeavesReport matches case image tells files = IfSome image (λ bytes. IsTrue tells → AreReport matches FILES_BUILT (case bytes) files)

@@ -1,3 +1,4 @@
+pub mod Plans
 pub mod Words
 pub mod Steps
 pub mod Status
@@ -5,5 +6,6 @@ pub mod Case
 pub mod Text
 pub mod Sources
 pub mod Kept
+pub mod Patterns
 pub mod Call
 pub mod Image

@@ -13,26 +13,30 @@ words = 1
 abbrev pub parts : ℕ
 parts = 2
 
+-- the patterns are built
+abbrev pub build : ℕ
+build = 3
+
 -- the parts of the image are attached
 abbrev pub attach : ℕ
-attach = 3
+attach = 4
 
 -- the size of the image is tested
 abbrev pub size : ℕ
-size = 4
+size = 5
 
 -- the folder is mounted
 abbrev pub mount : ℕ
-mount = 5
+mount = 6
 
 -- the image is read
 abbrev pub read : ℕ
-read = 6
+read = 7
 
 -- the report stands, and its text is put
 abbrev pub print : ℕ
-print = 7
+print = 8
 
 -- the text was put
 abbrev pub end : ℕ
-end = 8
+end = 9

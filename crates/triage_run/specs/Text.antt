@@ -6,9 +6,9 @@ use Rattle.forensic_path.specs.declared.feature.Classed.{Classed}
 use Rattle.feature_file.specs.Files.{name_of}
 use Rattle.feature_file.specs.FeatureFile.{stands_in}
 use Rattle.triage_run.specs.declared.status.Status.{Status}
-use Rattle.triage_run.specs.declared.status.Status.TheVariants.{Done, Usage, ReadFault, DiskFault, OutFault, NoMemory, NotYet}
+use Rattle.triage_run.specs.declared.status.Status.TheVariants.{Done, Usage, ReadFault, PatternRefused, DiskFault, OutFault, NoMemory, NotYet}
 use Rattle.triage_run.specs.declared.status.Why.{Why}
-use Rattle.triage_run.specs.declared.status.Why.TheVariants.{NoCommand, UnknownCommand, UnknownOption, TooMany, PlaceMissing}
+use Rattle.triage_run.specs.declared.status.Why.TheVariants.{NoCommand, UnknownCommand, UnknownOption, TooMany, ValueMissing, BadText, PlaceMissing}
 use Rattle.triage_run.specs.declared.status.ReadPlace.{ReadPlace}
 use Rattle.triage_run.specs.declared.status.ReadPlace.TheVariants.{Image, Page}
 use Rattle.triage_run.specs.declared.status.Unbuilt.{Unbuilt}
@@ -25,6 +25,8 @@ why_text NoCommand = codes "no command"
 why_text UnknownCommand = codes "unknown command"
 why_text UnknownOption = codes "unknown option"
 why_text TooMany = codes "too many"
+why_text ValueMissing = codes "value missing"
+why_text BadText = codes "bad text"
 why_text PlaceMissing = codes "place missing"
 
 -- which word is bad, and why
@@ -45,6 +47,7 @@ unbuilt_text (Size bytes) = codes "size " ++ decimal bytes
 abbrev pub line_of : Status → List ℕ
 line_of (Usage word why) = codes "usage: " ++ word_text (record { word = word; why = why }) ++ codes "\n"
 line_of (ReadFault place) = codes "read fault: " ++ place_text place ++ codes "\n"
+line_of (PatternRefused index) = codes "pattern refused: " ++ decimal index ++ codes "\n"
 line_of DiskFault = codes "disk fault\n"
 line_of NoMemory = codes "no memory\n"
 line_of (NotYet what) = codes "not yet: " ++ unbuilt_text what ++ codes "\n"

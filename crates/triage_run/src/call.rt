@@ -1,16 +1,15 @@
 // The call that the program makes.
-ghost use Rattle.std.specs.Prelude.{◌≡◌, [], ◌∷◌, ◌<◌, ◌≤◌, ◌^◌, true, false, IsTrue, length, vec_len, IfOk, OnOk, IfErr, IfSome};
+ghost use Rattle.std.specs.Prelude.{◌≡◌, [], ◌∷◌, ◌<◌, ◌≤◌, ◌^◌, true, false, List, IsTrue, length, vec_len, IfOk, OnOk, IfErr};
 ghost use Rattle.std.specs.List.{All, AllByRecursion};
-ghost use Rattle.report_publish.specs.declared.publish.TheConstants.{FILES_BUILT};
-ghost use Rattle.triage_run.specs.Call.{call_of, call_over, and_sink, Answers, IsCause, IsExact, HasParts};
-ghost use Rattle.triage_run.specs.Case.{case_of, no_match};
-ghost use Rattle.triage_run.specs.Kept.{KeepsSource, KeepsDisk, KeepsSink, KeepsOthers};
-ghost use Rattle.triage_run.specs.Sources.{image_told, TellAlike, IsReady, Pairwise, OnlyParts};
+ghost use Rattle.triage_run.specs.Call.{call_of, call_over, and_readings, and_kit, and_sink, Answers, Scanned};
+ghost use Rattle.triage_run.specs.Kept.{KeepsSource, KeepsDisk, KeepsKit, KeepsSink, KeepsOthers};
+ghost use Rattle.triage_run.specs.Patterns.{MayBuild};
+ghost use Rattle.triage_run.specs.Sources.{TellAlike, IsReady, Pairwise, OnlyParts};
 ghost use Rattle.triage_run.specs.Status.{scanned_as, IfDone, IfReadFault, IsAheadOf, IsBehind, IsRefusal};
-ghost use Rattle.triage_run.specs.Steps.{attach, mount};
-ghost use Rattle.triage_run.specs.Text.{counts_of};
+ghost use Rattle.triage_run.specs.Steps.{build, attach, mount};
 ghost use Rattle.triage_run.specs.Words.{command_of};
 
+use crate::patterns::build_matchers;
 use crate::scan::scan_part;
 use crate::status::{Status, Unbuilt};
 use crate::summary::Summary;
@@ -18,45 +17,51 @@ use crate::text::print_end;
 use crate::words::read_words;
 use host_disk::Disk;
 use host_source::{Sink, Source};
+use pattern_kit::{Kit, Matcher};
 use std::alloc::Global;
 
 /// What a call hands back: the objects that it was handed, and how it ended.
 #[derive(Drop)]
-pub struct Outcome<S, D, O> {
+pub struct Outcome<S, D, K, O> {
     pub sources: Vec<S>,
     pub disk: D,
+    pub kit: K,
     pub out: O,
     pub status: Status,
 }
 
 /// Does what the words say: `scan IMAGE OUT` scans the image, which the sources hold under its name,
-/// and writes the report into the place OUT of the disk. Then the text of the status is put to the sink: what
-/// was found, or the line of a refusal.
-pub fn triage<S, D, O>(
+/// and writes the report into the place OUT of the disk. The kit builds the patterns that the words give. Then
+/// the text of the status is put to the sink: what was found, or the line of a refusal.
+pub fn triage<S, D, K, O>(
     alloc: Global,
     words: &[String],
     sources: Vec<S>,
     disk: D,
+    kit: K,
     out: O,
-) -> Outcome<S, D, O>
+) -> Outcome<S, D, K, O>
 where
     S: Source + Send + Drop,
     D: Disk + Send,
+    K: Kit,
     O: Sink,
     requires words { length words.now < 2 ^ 32 }
-    requires some { 1 ≤ vec_len sources }
-    requires at_most_eight { vec_len sources ≤ 8 }
+    requires sources { (1 ≤ vec_len sources) × (vec_len sources ≤ 8) }
     requires alike { TellAlike S.nature sources.items }
     requires ready { All (IsReady S.nature S.slots (command_of words.now)) sources.items }
     requires unmounted { D.mounted disk ≡ false }
-    requires asked { IfOk (command_of words.now) (λ scan. IsTrue ((D.nature disk).may_mount scan.out)) }
+    requires asked { IfOk (command_of words.now) (λ scan. IsTrue ((D.nature disk).may_mount scan.out) × MayBuild (K.may_build kit) scan.plan.patterns) }
 
-    // Every object comes back, tells what it told, and has a count of faults that is no lower.
+    // Every object comes back, tells what it told, and has a count of faults or refusals that is no lower.
     ensures sources { Pairwise (KeepsSource S.nature S.faults) sources.items result.sources.items }
     ensures disk { KeepsDisk D.nature D.faults disk result.disk }
+    ensures kit { KeepsKit K.may_build K.refusals kit result.kit }
     ensures sink { KeepsSink O.taken O.faults out result.out }
 
-    // A refusal ahead of the attach leaves the sources as they were, and one ahead of the mount the disk.
+    // A refusal ahead of the build leaves the kit as it was, one ahead of the attach the sources, and one ahead of
+    // the mount the disk.
+    ensures unasked { IsAheadOf build result.status → result.kit ≡ kit }
     ensures unread { IsAheadOf attach result.status → result.sources.items ≡ sources.items }
     ensures untouched { IsAheadOf mount result.status → result.disk ≡ disk }
 
@@ -67,43 +72,49 @@ where
     ensures others { KeepsOthers (D.nature disk) (D.files disk) (D.files result.disk) }
     ensures unwritten { IfReadFault result.status (D.files result.disk ≡ D.files disk) }
 
-    // Done leaves the report of the whole image and puts its text; each refusal has its cause and puts its
-    // line, and each cause that is seen first is refused; where the sink alone failed, the report stands; one
-    // lawful part over objects that don't fail is done, or wants memory.
-    ensures answers { Answers (and_sink O.taken O.faults out result.out (call_of S.nature S.slots S.faults D.nature D.files D.faults
-        (command_of words.now) sources.items result.sources.items disk result.disk)) result.status }
+    // Done leaves the report of the whole image, by readings that the patterns have, and puts its text; each
+    // refusal has its cause and puts its line, and each cause that is seen first is refused; where the sink alone
+    // failed, the report stands; one lawful part over objects that don't fail is done, or wants memory.
+    ensures answers { (readings : List K.M.Reading) × Answers (and_sink O.taken O.faults out result.out
+        (and_kit (K.refusals kit) (K.refusals result.kit) (and_readings K.M.reads K.M.matches readings (call_of S.nature S.slots S.faults
+        D.nature D.files D.faults (command_of words.now) sources.items result.sources.items disk result.disk)))) result.status }
 
-    // And done comes only where no call failed: no count of faults differs.
+    // And done comes only where no call failed: no count differs.
     ensures sure { IfDone result.status (Pairwise (λ s t. S.faults t ≡ S.faults s) sources.items result.sources.items
-        × (D.faults result.disk ≡ D.faults disk) × (O.faults result.out ≡ O.faults out)) }
+        × (D.faults result.disk ≡ D.faults disk) × (K.refusals result.kit ≡ K.refusals kit) × (O.faults result.out ≡ O.faults out)) }
 {
     let mut sources = sources;
     let mut disk = disk;
+    let mut kit = kit;
     let mut out = out;
     let first = &mut sources[0];
-    let scanned = scan_words(alloc, words, first, &mut disk);
+    let scanned = scan_words(alloc, words, first, &mut disk, &mut kit);
     let status = print_end(alloc, scanned, &mut out);
     Outcome {
         sources,
         disk,
+        kit,
         out,
         status,
     }
 }
 
 // Does what the words say with one source, and gives what was found, or the refusal.
-fn scan_words<S: Source, D: Disk>(
+fn scan_words<S: Source, D: Disk, K: Kit>(
     alloc: Global,
     words: &[String],
     source: &mut S,
     disk: &mut D,
+    kit: &mut K,
 ) -> Result<Summary, Status>
     requires words { length words.now < 2 ^ 32 }
     requires ready { IsReady S.nature S.slots (command_of words.now) source.old }
     requires unmounted { D.mounted disk.old ≡ false }
-    requires asked { IfOk (command_of words.now) (λ scan. IsTrue ((D.nature disk.old).may_mount scan.out)) }
+    requires asked { IfOk (command_of words.now) (λ scan. IsTrue ((D.nature disk.old).may_mount scan.out) × MayBuild (K.may_build kit.old) scan.plan.patterns) }
     ensures source { KeepsSource S.nature S.faults source.old source.new }
     ensures disk { KeepsDisk D.nature D.faults disk.old disk.new }
+    ensures kit { KeepsKit K.may_build K.refusals kit.old kit.new }
+    ensures unasked { IsAheadOf build (scanned_as result) → kit.new ≡ kit.old }
     ensures unread { IsAheadOf attach (scanned_as result) → source.new ≡ source.old }
     ensures untouched { IsAheadOf mount (scanned_as result) → disk.new ≡ disk.old }
     ensures slots { OnlyParts (command_of words.now) (S.slots source.new) }
@@ -111,24 +122,22 @@ fn scan_words<S: Source, D: Disk>(
     ensures others { KeepsOthers (D.nature disk.old) (D.files disk.old) (D.files disk.new) }
     ensures unwritten { IfReadFault (scanned_as result) (D.files disk.new ≡ D.files disk.old) }
     ensures refused { IfErr result IsRefusal }
-    ensures found { IfOk result (λ found. IfSome (image_told S.nature (source.old ∷ []) (command_of words.now)) (λ image. found ≡ counts_of no_match FILES_BUILT (case_of image))) }
-    ensures sure { OnOk result ((S.faults source.new ≡ S.faults source.old) × (D.faults disk.new ≡ D.faults disk.old)) }
-    ensures cause { IsCause (call_over S.nature S.slots S.faults D.nature D.files D.faults (command_of words.now) source.old source.new disk.old disk.new) (scanned_as result) }
-    ensures exact { IsExact (call_over S.nature S.slots S.faults D.nature D.files D.faults (command_of words.now) source.old source.new disk.old disk.new) (scanned_as result) }
-    ensures parts { HasParts (call_over S.nature S.slots S.faults D.nature D.files D.faults (command_of words.now) source.old source.new disk.old disk.new) (scanned_as result) }
+    ensures sure { OnOk result ((S.faults source.new ≡ S.faults source.old) × (D.faults disk.new ≡ D.faults disk.old) × (K.refusals kit.new ≡ K.refusals kit.old)) }
+    ensures scanned { (readings : List K.M.Reading) × Scanned (and_kit (K.refusals kit.old) (K.refusals kit.new) (and_readings K.M.reads K.M.matches readings
+        (call_over S.nature S.slots S.faults D.nature D.files D.faults (command_of words.now) source.old source.new disk.old disk.new))) result }
 {
-    let scan = match read_words(words) {
+    let scan = match read_words(alloc, words) {
         Ok(scan) => scan,
-        Err(bad) => {
-            return Err(Status::Usage {
-                word: bad.word,
-                why: bad.why,
-            });
-        }
+        Err(refusal) => return Err(refusal),
     };
-    let [part] = scan.parts else {
+    if scan.parts.len() > 1 {
         let what = Unbuilt::Parts;
         return Err(Status::NotYet { what });
+    }
+    let matchers = match build_matchers(alloc, kit, scan.plan.patterns.items()) {
+        Ok(matchers) => matchers,
+        Err(refusal) => return Err(refusal),
     };
-    scan_part(alloc, part.as_str(), scan.out.as_str(), source, disk)
+    let (part, out) = (scan.parts[0].as_str(), scan.out.as_str());
+    scan_part(alloc, &scan.plan, matchers, part, out, source, disk)
 }

@@ -14,6 +14,8 @@
 
 mod call;
 mod image;
+mod options;
+mod patterns;
 mod plan;
 mod report;
 mod scan;

@@ -1,14 +1,14 @@
 // What every scan looks for.
 ghost use Rattle.std.specs.Prelude.{◌≡◌};
-ghost use Rattle.triage_run.specs.Case.{plan_built};
+ghost use Rattle.triage_run.specs.Plans.{plan_built};
 
 use byte_kit::{Names, Texts};
 use scan_set::ScanPlan;
 use std::alloc::Global;
 
-/// The scanners that are built, a bit each: those of URLs, domains, packets, executables and members that
-/// are not read.
-pub const SCANNERS_BUILT: u16 = 0x001F;
+/// The scanners that are built, a bit each: those of URLs, domains, packets, executables, members that are
+/// not read, and the user's keywords and patterns.
+pub const SCANNERS_BUILT: u16 = 0x003F;
 
 /// How many bytes of context a feature keeps on either side.
 pub const CONTEXT_BYTES: u16 = 16;
@@ -22,7 +22,8 @@ pub const WORD_MOST: u16 = 14;
 /// How many bytes a page of the image has.
 pub const PAGE_BYTES: u64 = 16_777_216;
 
-/// The plan of a scan by the scanners that are built, in the image itself. It takes no memory.
+/// The plan of a scan by the scanners that are built, in the image itself, with no keyword and no pattern
+/// yet. It takes no memory.
 pub fn plan_built(alloc: Global) -> ScanPlan
     ensures { result ≡ plan_built }
 {

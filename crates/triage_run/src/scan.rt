@@ -1,14 +1,13 @@
 // The scan of one part.
-ghost use Rattle.std.specs.Prelude.{◌≡◌, [], ◌∷◌, IsTrue, true, false, IfOk, OnOk, IfErr, IfSome};
+ghost use Rattle.std.specs.Prelude.{◌≡◌, [], ◌∷◌, map, IsTrue, true, false, OnOk, IfErr};
 ghost use Rattle.host_source.specs.Source.{IsDetached};
-ghost use Rattle.report_publish.specs.declared.publish.TheConstants.{FILES_BUILT};
-ghost use Rattle.triage_run.specs.Case.{case_of, no_match};
-ghost use Rattle.triage_run.specs.Call.{call_over, IsCause, IsExact, HasParts};
+ghost use Rattle.triage_run.specs.Call.{call_over, and_readings, IsCause, IsExact, HasReadings, HasParts, HasFound};
 ghost use Rattle.triage_run.specs.Kept.{KeepsSource, KeepsDisk, KeepsOthers};
-ghost use Rattle.triage_run.specs.Sources.{image_told, OnlyParts};
+ghost use Rattle.triage_run.specs.Patterns.{AreRead};
+ghost use Rattle.triage_run.specs.Plans.{IsPlan};
+ghost use Rattle.triage_run.specs.Sources.{OnlyParts};
 ghost use Rattle.triage_run.specs.Status.{scanned_as, IfReadFault, IsAheadOf, IsBehind, IsRefusal};
 ghost use Rattle.triage_run.specs.Steps.{mount};
-ghost use Rattle.triage_run.specs.Text.{counts_of};
 ghost use Rattle.triage_run.specs.Words.{one_part};
 
 use crate::image::{ReadEnd, read_image};
@@ -17,21 +16,27 @@ use crate::status::{ReadPlace, Status, Unbuilt};
 use crate::summary::Summary;
 use host_disk::{Disk, DiskFault};
 use host_source::Source;
+use pattern_kit::Matcher;
 use report_publish::PublishFault;
+use scan_set::ScanPlan;
 use std::alloc::Global;
 
 /// The most bytes of an image that is read whole.
 pub const IMAGE_MOST: u64 = 1_048_576;
 
-/// Scans one part into a folder: attaches it, tests its size, mounts the folder, reads the part, and
-/// writes the report. Gives what was found, or the refusal.
-pub fn scan_part<S: Source, D: Disk>(
+/// Scans one part into a folder, by a plan and the matchers of its patterns: attaches it, tests its size,
+/// mounts the folder, reads the part, and writes the report. Gives what was found, or the refusal.
+pub fn scan_part<S: Source, D: Disk, M: Matcher>(
     alloc: Global,
+    plan: &ScanPlan,
+    matchers: Vec<M>,
     part: &str,
     out: &str,
     source: &mut S,
     disk: &mut D,
 ) -> Result<Summary, Status>
+    requires plan { IsPlan plan.now }
+    requires read { AreRead M.reads plan.now.patterns (map M.reading matchers.items) }
     requires detached { IsDetached (S.slots source.old) }
     requires part_asked { IsTrue ((S.nature source.old).may_attach part.now) }
     requires unmounted { D.mounted disk.old ≡ false }
@@ -39,16 +44,17 @@ pub fn scan_part<S: Source, D: Disk>(
     ensures source { KeepsSource S.nature S.faults source.old source.new }
     ensures disk { KeepsDisk D.nature D.faults disk.old disk.new }
     ensures untouched { IsAheadOf mount (scanned_as result) → disk.new ≡ disk.old }
-    ensures slots { OnlyParts (one_part part.now out.now) (S.slots source.new) }
+    ensures slots { OnlyParts (one_part plan.now part.now out.now) (S.slots source.new) }
     ensures mounted { IsBehind mount (scanned_as result) → D.mounted disk.new ≡ true }
     ensures others { KeepsOthers (D.nature disk.old) (D.files disk.old) (D.files disk.new) }
     ensures unwritten { IfReadFault (scanned_as result) (D.files disk.new ≡ D.files disk.old) }
     ensures refused { IfErr result IsRefusal }
-    ensures found { IfOk result (λ found. IfSome (image_told S.nature (source.old ∷ []) (one_part part.now out.now)) (λ image. found ≡ counts_of no_match FILES_BUILT (case_of image))) }
     ensures sure { OnOk result ((S.faults source.new ≡ S.faults source.old) × (D.faults disk.new ≡ D.faults disk.old)) }
-    ensures cause { IsCause (call_over S.nature S.slots S.faults D.nature D.files D.faults (one_part part.now out.now) source.old source.new disk.old disk.new) (scanned_as result) }
-    ensures exact { IsExact (call_over S.nature S.slots S.faults D.nature D.files D.faults (one_part part.now out.now) source.old source.new disk.old disk.new) (scanned_as result) }
-    ensures parts { HasParts (call_over S.nature S.slots S.faults D.nature D.files D.faults (one_part part.now out.now) source.old source.new disk.old disk.new) (scanned_as result) }
+    ensures cause { IsCause (and_readings M.reads M.matches (map M.reading matchers.items) (call_over S.nature S.slots S.faults D.nature D.files D.faults (one_part plan.now part.now out.now) source.old source.new disk.old disk.new)) (scanned_as result) }
+    ensures exact { IsExact (and_readings M.reads M.matches (map M.reading matchers.items) (call_over S.nature S.slots S.faults D.nature D.files D.faults (one_part plan.now part.now out.now) source.old source.new disk.old disk.new)) (scanned_as result) }
+    ensures readings { HasReadings (and_readings M.reads M.matches (map M.reading matchers.items) (call_over S.nature S.slots S.faults D.nature D.files D.faults (one_part plan.now part.now out.now) source.old source.new disk.old disk.new)) (scanned_as result) }
+    ensures parts { HasParts (and_readings M.reads M.matches (map M.reading matchers.items) (call_over S.nature S.slots S.faults D.nature D.files D.faults (one_part plan.now part.now out.now) source.old source.new disk.old disk.new)) (scanned_as result) }
+    ensures found { HasFound (and_readings M.reads M.matches (map M.reading matchers.items) (call_over S.nature S.slots S.faults D.nature D.files D.faults (one_part plan.now part.now out.now) source.old source.new disk.old disk.new)) result }
 {
     let Ok(size) = source.attach(0, part) else {
         let place = ReadPlace::Image;
@@ -71,7 +77,7 @@ pub fn scan_part<S: Source, D: Disk>(
         }
         Err(ReadEnd::NoMemory) => return Err(Status::NoMemory),
     };
-    match write_report(alloc, image.as_slice(), disk) {
+    match write_report(alloc, image.as_slice(), plan, matchers, disk) {
         Ok(found) => Ok(found),
         Err(PublishFault::Disk) => Err(Status::DiskFault),
         Err(PublishFault::NoMemory) => Err(Status::NoMemory),

@@ -11,6 +11,8 @@ pub enum Status {
     Usage { word: u32, why: Why },
     /// The source failed.
     ReadFault { place: ReadPlace },
+    /// The kit did not read the text of the pattern of this number, counted from 0.
+    PatternRefused { index: u32 },
     /// The disk failed.
     DiskFault,
     /// The report stands, and the sink failed to take its text.
@@ -30,8 +32,12 @@ pub enum Why {
     UnknownCommand,
     /// A word in an option's place is no option.
     UnknownOption,
-    /// There are more place words than a scan takes.
+    /// There are more place words than a scan takes, or an option is given once too often.
     TooMany,
+    /// The value of an option is missing.
+    ValueMissing,
+    /// The value of an option is no text of 1 to 256 bytes.
+    BadText,
     /// There are fewer than two place words.
     PlaceMissing,
 }
@@ -65,6 +71,7 @@ impl Status {
             Status::Done => 0,
             Status::Usage { .. } => 2,
             Status::ReadFault { .. } => 4,
+            Status::PatternRefused { .. } => 5,
             Status::DiskFault => 8,
             Status::OutFault => 13,
             Status::NoMemory => 14,

@@ -1,19 +1,23 @@
-ghost use Rattle.std.specs.Prelude.{◌≡◌, ◌<◌, ◌≤◌, ◌^◌, false, length, vec_len, IfOk};
+ghost use Rattle.std.specs.Prelude.{◌≡◌, ℕ, List, IsTrue, ◌<◌, ◌≤◌, ◌^◌, false, length, vec_len, IfOk};
 ghost use Rattle.host_source.specs.Source.{IsDetached};
 ghost use Rattle.host_source.specs.MemSource.{mem_slots};
 ghost use Rattle.host_disk.specs.MemDisk.{mem_mounted};
 
+mod calls;
+mod options;
+mod patterns;
 mod refusals;
 mod reports;
 
 use crate::{Outcome, triage};
 use byte_kit::NoMemory;
-use host_disk::MemDisk;
+use host_disk::{MemDisk, SureDisk};
 use host_source::{MemSink, MemSource};
+use pattern_kit::{Kit, WordKit};
 use std::alloc::Global;
 
 // The most words of a call in these tests.
-const WORDS_MOST: usize = 100;
+const WORDS_MOST: usize = 200;
 
 // The words as `triage` takes them.
 fn texts(alloc: Global, words: &[&str]) -> Result<Vec<String>, NoMemory>
@@ -30,9 +34,28 @@ fn texts(alloc: Global, words: &[&str]) -> Result<Vec<String>, NoMemory>
 }
 
 // How a call over objects in memory ends.
-type MemOutcome = Outcome<MemSource, MemDisk, MemSink>;
+type MemOutcome<K = WordKit> = Outcome<MemSource, MemDisk, K, MemSink>;
 
-// A call over a source, a disk and a sink in memory.
+// A call over a source, a disk, a kit and a sink in memory.
+fn call_with<K: Kit + Drop>(
+    alloc: Global,
+    words: &[&str],
+    source: MemSource,
+    disk: MemDisk,
+    kit: K,
+    sink: MemSink,
+) -> Result<MemOutcome<K>, NoMemory>
+    requires detached { IsDetached (mem_slots source) }
+    requires unmounted { mem_mounted disk ≡ false }
+    requires asked { (index : ℕ) (text : List ℕ) → IsTrue (K.may_build kit index text) }
+{
+    let words = texts(alloc, words)?;
+    let mut sources = Vec::new(alloc);
+    sources.push(source)?;
+    Ok(triage(alloc, words.as_slice(), sources, disk, kit, sink))
+}
+
+// The same with a kit that refuses nothing.
 fn call(
     alloc: Global,
     words: &[&str],
@@ -43,10 +66,24 @@ fn call(
     requires detached { IsDetached (mem_slots source) }
     requires unmounted { mem_mounted disk ≡ false }
 {
+    call_with(alloc, words, source, disk, WordKit::make(0), sink)
+}
+
+// A call over two sources in memory that hold nothing.
+fn call_with_two(
+    alloc: Global,
+    words: &[&str],
+) -> Result<Outcome<MemSource, SureDisk, WordKit, MemSink>, NoMemory> {
     let words = texts(alloc, words)?;
     let mut sources = Vec::new(alloc);
-    sources.push(source)?;
-    Ok(triage(alloc, words.as_slice(), sources, disk, sink))
+    sources.push(MemSource::make(alloc))?;
+    sources.push(MemSource::make(alloc))?;
+    let (disk, kit, sink) = (
+        SureDisk::make(alloc),
+        WordKit::make(0),
+        MemSink::make(alloc),
+    );
+    Ok(triage(alloc, words.as_slice(), sources, disk, kit, sink))
 }
 
 // A call over objects that hold nothing.
@@ -61,13 +98,26 @@ fn call_over_nothing(alloc: Global, words: &[&str]) -> Result<MemOutcome, NoMemo
     )
 }
 
-// A source that holds the image `i`, in which these calls fail.
-fn source_of(alloc: Global, image: &[u8], fails: &[u64]) -> Result<MemSource, NoMemory>
-    requires { length image.now < 2 ^ 57 }
+// The most bytes of an image in these tests.
+const IMAGE_LONGEST: usize = 1_048_576;
+
+// A source that holds the image `i`.
+fn holding(alloc: Global, image: &[u8]) -> Result<MemSource, NoMemory>
     ensures { IfOk result (λ source. IsDetached (mem_slots source)) }
 {
+    if image.len() > IMAGE_LONGEST {
+        return Err(NoMemory);
+    }
     let mut source = MemSource::make(alloc);
     source.add("i", image)?;
+    Ok(source)
+}
+
+// The same, in which these calls fail.
+fn source_of(alloc: Global, image: &[u8], fails: &[u64]) -> Result<MemSource, NoMemory>
+    ensures { IfOk result (λ source. IsDetached (mem_slots source)) }
+{
+    let mut source = holding(alloc, image)?;
     source.fail_calls(fails)?;
     Ok(source)
 }
@@ -91,16 +141,14 @@ fn sink_of(alloc: Global, put_fails: bool) -> Result<MemSink, NoMemory> {
 }
 
 // A scan of the image `i` into `o`, in which these calls of the source and of the disk fail, and the put
-// of the text where that is wanted.
+// of the text where that is wanted. An image that is too long for these tests is no scan.
 fn scan_failing(
     alloc: Global,
     image: &[u8],
     source_fails: &[u64],
     disk_fails: &[u64],
     put_fails: bool,
-) -> Result<MemOutcome, NoMemory>
-    requires { length image.now < 2 ^ 57 }
-{
+) -> Result<MemOutcome, NoMemory> {
     let source = source_of(alloc, image, source_fails)?;
     let disk = disk_of(alloc, disk_fails)?;
     let sink = sink_of(alloc, put_fails)?;
@@ -113,8 +161,6 @@ fn scan(
     image: &[u8],
     source_fails: &[u64],
     disk_fails: &[u64],
-) -> Result<MemOutcome, NoMemory>
-    requires { length image.now < 2 ^ 57 }
-{
+) -> Result<MemOutcome, NoMemory> {
     scan_failing(alloc, image, source_fails, disk_fails, false)
 }

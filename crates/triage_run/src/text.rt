@@ -30,6 +30,8 @@ impl fmt::Display for Why {
             Why::UnknownCommand => "unknown command",
             Why::UnknownOption => "unknown option",
             Why::TooMany => "too many",
+            Why::ValueMissing => "value missing",
+            Why::BadText => "bad text",
             Why::PlaceMissing => "place missing",
         })
     }
@@ -85,6 +87,7 @@ fn line_of(alloc: Global, refusal: Status) -> Result<String, AllocError>
             format!(in alloc; "usage: {bad}\n")
         }
         Status::ReadFault { place } => format!(in alloc; "read fault: {place}\n"),
+        Status::PatternRefused { index } => format!(in alloc; "pattern refused: {index}\n"),
         Status::DiskFault => String::from_str(alloc, "disk fault\n"),
         Status::NoMemory => String::from_str(alloc, "no memory\n"),
         Status::NotYet { what } => format!(in alloc; "not yet: {what}\n"),

@@ -12,7 +12,7 @@ mod look_up;
 mod place_test;
 mod search;
 
-pub use look_up::by_high_half;
+pub use look_up::{by_high_half, by_low_half};
 pub use place_test::{LANES, PlaceTest};
 pub use search::next_place;
 

@@ -52,59 +52,71 @@ fn found(
     Ok(Some(next_place(&Pair, bytes.as_slice(), from, to)))
 }
 
+// How many dots, where the pairs stand, the places searched, and the place found.
+type Row = (usize, &'static [usize], usize, usize, usize);
+
+const ROWS: &[Row] = &[
+    (200, &[70, 130], 0, 200, 70),
+    (200, &[70, 130], 70, 200, 70),
+    (200, &[70, 130], 71, 200, 130),
+    (200, &[70, 130], 131, 200, 200),
+    (200, &[70, 130], 0, 70, 70),
+    (200, &[70, 130], 0, 69, 69),
+    (200, &[70, 130], 0, 0, 0),
+    (200, &[70, 130], 71, 130, 130),
+    (200, &[70, 130], 71, 131, 130),
+    (64, &[61], 0, 64, 61),
+    (64, &[62], 0, 64, 64),
+    (66, &[63], 0, 64, 63),
+    (65, &[63], 0, 64, 64),
+    (82, &[63], 0, 82, 63),
+    (82, &[64], 0, 82, 64),
+    (82, &[79], 0, 82, 79),
+    (3, &[0], 0, 3, 0),
+    (2, &[0], 0, 2, 2),
+    (0, &[], 0, 0, 0),
+];
+
 #[test]
 fn the_next_place_is_found_wherever_it_stands(rt: HostRuntime) -> Result<(), Fail> {
-    let rows = [
-        (200, [70, 130].as_slice(), 0, 200, 70),
-        (200, &[70, 130], 70, 200, 70),
-        (200, &[70, 130], 71, 200, 130),
-        (200, &[70, 130], 131, 200, 200),
-        (200, &[70, 130], 0, 70, 70),
-        (200, &[70, 130], 0, 69, 69),
-        (200, &[70, 130], 0, 0, 0),
-        (200, &[70, 130], 71, 130, 130),
-        (200, &[70, 130], 71, 131, 130),
-        (64, &[61], 0, 64, 61),
-        (64, &[62], 0, 64, 64),
-        (66, &[63], 0, 64, 63),
-        (65, &[63], 0, 64, 64),
-        (82, &[63], 0, 82, 63),
-        (82, &[64], 0, 82, 64),
-        (82, &[79], 0, 82, 79),
-        (3, &[0], 0, 3, 0),
-        (2, &[0], 0, 2, 2),
-        (0, &[], 0, 0, 0),
-    ];
-    for (length, pairs, from, to, want) in rows {
-        let next = found(rt.alloc(), length, pairs, from, to)?;
-        assert_eq!(rt; next, Some(want), "in {length} from {from} to {to}");
+    for (length, pairs, from, to, want) in ROWS {
+        let next = found(rt.alloc(), *length, pairs, *from, *to)?;
+        assert!(rt; next == Some(*want), "in {length} from {from} to {to}");
     }
     Ok(())
 }
 
+// A pair behind `ahead` dots is found from `offset` on, up to its place, up to the one behind it and up to the
+// end, which is so many bytes behind it.
+fn is_found(alloc: Global, offset: usize, ahead: usize, behind: usize) -> Result<bool, AllocError> {
+    let place = offset.saturating_add(ahead);
+    let length = place.saturating_add(behind);
+    for to in [place, place.saturating_add(1), length] {
+        if found(alloc, length, &[place], offset, to)? != Some(place) {
+            return Ok(false);
+        }
+    }
+    Ok(true)
+}
+
+// How many dots stand ahead of a pair, and how many bytes from it on.
+const AROUND: &[(usize, usize)] = &[
+    (0, 3),
+    (0, 40),
+    (15, 3),
+    (16, 3),
+    (63, 3),
+    (64, 3),
+    (64, 90),
+    (130, 18),
+];
+
 #[test]
 fn no_offset_hides_a_place(rt: HostRuntime) -> Result<(), Fail> {
     for offset in 0..64 {
-        for (ahead, behind) in [
-            (0, 3),
-            (0, 40),
-            (15, 3),
-            (16, 3),
-            (63, 3),
-            (64, 3),
-            (64, 90),
-            (130, 18),
-        ] {
-            let place = offset + ahead;
-            let length = place + behind;
-            for to in [place, place + 1, length] {
-                let next = found(rt.alloc(), length, &[place], offset, to)?;
-                assert_eq!(rt;
-                    next,
-                    Some(place),
-                    "at {place} of {length} from {offset} to {to}"
-                );
-            }
+        for (ahead, behind) in AROUND {
+            let is_so = is_found(rt.alloc(), offset, *ahead, *behind)?;
+            assert!(rt; is_so, "at {offset} with {ahead} ahead and {behind} behind");
         }
     }
     Ok(())
@@ -123,5 +135,5 @@ fn a_byte_is_looked_up_by_its_high_half(rt: HostRuntime) {
         10, 10, 11, 11, 12, 13, 14, 15, 16, 17, 18, 19, 20, 21, 24, 25,
     ];
     let found = by_high_half(table, u8x16::from_array(bytes));
-    assert_eq!(rt; found.to_array(), want);
+    assert!(rt; found.to_array() == want);
 }

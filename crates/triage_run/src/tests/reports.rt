@@ -1,6 +1,9 @@
 // What scans that are done leave and print.
-use super::scan;
+use super::{MemOutcome, scan};
 use crate::Status;
+use byte_kit::NoMemory;
+use host_disk::MemDisk;
+use std::alloc::Global;
 use std::test::Fail;
 
 const URL_HEADER: &str =
@@ -9,13 +12,19 @@ const URL_HEADER: &str =
 const DOMAIN_HEADER: &str =
     "# triage feature file, format 1\n# file: domain.txt\n# columns: path, feature, context\n";
 
-// A file has this front, and behind it these lines and nothing else.
-fn has(file: &[u8], front: &str, lines: &str) -> bool {
-    file.strip_prefix(front.as_bytes()) == Some(lines.as_bytes())
+// The file of this number has this front, and behind it these lines and nothing else.
+fn has(disk: &MemDisk, file: u32, front: &str, lines: &str) -> bool {
+    if file >= 64 {
+        return false;
+    }
+    match disk.file(file).strip_prefix(front.as_bytes()) {
+        Some(behind) => behind == lines.as_bytes(),
+        None => false,
+    }
 }
 
 // An image, the lines of its URLs and of its domains, and the text.
-const ROWS: [(&str, &str, &str, &str); 9] = [
+const ROWS: &[(&str, &str, &str, &str)] = &[
     ("", "", "", "done pages=0 features=0\n"),
     (
         "see http://example.com/a b",
@@ -60,24 +69,44 @@ const ROWS: [(&str, &str, &str, &str); 9] = [
 // The text of a page with one URL and no domain.
 const ONE_URL: &str = "done pages=1 features=1\nurl.txt 1\n";
 
+// The scan is done, and has put this text.
+fn is_done(outcome: &MemOutcome, text: &str) -> bool {
+    outcome.status == Status::Done && outcome.out.bytes() == text.as_bytes()
+}
+
+// The files of URLs and of domains have these lines.
+pub(super) fn holds(disk: &MemDisk, urls: &str, domains: &str) -> bool {
+    has(disk, 1, URL_HEADER, urls) && has(disk, 2, DOMAIN_HEADER, domains)
+}
+
+// The scan of the image is done, and leaves these lines and this text.
+fn leaves(
+    alloc: Global,
+    image: &str,
+    urls: &str,
+    domains: &str,
+    text: &str,
+) -> Result<bool, NoMemory> {
+    let outcome = scan(alloc, image.as_bytes(), &[], &[])?;
+    Ok(is_done(&outcome, text) && holds(&outcome.disk, urls, domains))
+}
+
 #[test]
 fn each_url_and_each_domain_has_a_line_at_its_place(rt: HostRuntime) -> Result<(), Fail> {
-    let alloc = rt.alloc();
     for (image, urls, domains, text) in ROWS {
-        let outcome = scan(alloc, image.as_bytes(), &[], &[])?;
-        assert_eq!(rt; outcome.status, Status::Done, "at {image:?}");
-        assert!(rt; has(outcome.disk.file(1), URL_HEADER, urls), "at {image:?}");
         assert!(rt;
-            has(outcome.disk.file(2), DOMAIN_HEADER, domains),
-            "at {image:?}"
+            leaves(rt.alloc(), image, urls, domains, text)?,
+            "at {image}"
         );
-        assert_eq!(rt; outcome.out.bytes(), text.as_bytes(), "at {image:?}");
     }
     Ok(())
 }
 
+// How each feature file begins.
+const FRONT: &str = "# triage feature file, format 1\n# file: ";
+
 // An image, the number of a report file, what stands in it behind its name, and the text.
-const OTHER_ROWS: [(&[u8], u32, &str, &str); 3] = [
+const OTHER_ROWS: &[(&[u8], u32, &str, &str)] = &[
     (
         b"\x45\x00\x00\x73\x00\x00\x40\x00\x40\x11\xb8\x61\xc0\xa8\x00\x01\xc0\xa8\x00\xc7",
         3,
@@ -98,38 +127,60 @@ const OTHER_ROWS: [(&[u8], u32, &str, &str); 3] = [
     ),
 ];
 
+// The scan of the image is done, and leaves these lines in this file and this text.
+fn leaves_in(
+    alloc: Global,
+    image: &[u8],
+    file: u32,
+    lines: &str,
+    text: &str,
+) -> Result<bool, NoMemory> {
+    let outcome = scan(alloc, image, &[], &[])?;
+    Ok(is_done(&outcome, text) && has(&outcome.disk, file, FRONT, lines))
+}
+
 #[test]
 fn packets_executables_and_members_have_their_files(rt: HostRuntime) -> Result<(), Fail> {
-    let alloc = rt.alloc();
     for (image, file, lines, text) in OTHER_ROWS {
-        assert!(rt; image.len() < 100 && file < 64);
-        let outcome = scan(alloc, image, &[], &[])?;
-        let front = "# triage feature file, format 1\n# file: ";
-        assert!(rt; has(outcome.disk.file(file), front, lines), "of {file}");
-        assert_eq!(rt; outcome.out.bytes(), text.as_bytes(), "of {file}");
+        assert!(rt;
+            leaves_in(rt.alloc(), image, *file, lines, text)?,
+            "of {file}"
+        );
     }
     Ok(())
 }
 
-// As many features as the largest image holds of short ones, and a report of some 7 MiB.
-#[test]
-fn an_image_may_be_full_of_urls(rt: HostRuntime) -> Result<(), Fail> {
-    let alloc = rt.alloc();
+// How many lines end in the file.
+fn lines_of(file: &[u8]) -> u64 {
+    let mut lines = 0u64;
+    for byte in file {
+        if *byte == b'\n' {
+            lines = lines.saturating_add(1);
+        }
+    }
+    lines
+}
+
+// The disk holds as many lines of URLs as the largest image has short ones, in 7 MiB, and no domain.
+fn is_full(disk: &MemDisk) -> bool {
+    let urls = disk.file(1);
+    lines_of(urls) == 3 + 131_072 && urls.len() == 7_201_178 && has(disk, 2, DOMAIN_HEADER, "")
+}
+
+// So many times a short URL and a space.
+fn full_of_urls(alloc: Global, count: usize) -> Result<Vec<u8>, NoMemory> {
     let mut image = Vec::new(alloc);
-    for _ in 0..131_072 {
+    for _ in 0..count {
         image.extend_from_slice(b"ftp://a ")?;
     }
-    assert!(rt; image.len() == 1_048_576);
-    let outcome = scan(alloc, image.as_slice(), &[], &[])?;
-    assert_eq!(rt; outcome.status, Status::Done);
-    let urls = outcome.disk.file(1);
-    assert_eq!(rt;
-        urls.iter().filter(|byte| **byte == b'\n').count(),
-        3 + 131_072
-    );
-    assert_eq!(rt; urls.len(), 7_201_178);
-    assert_eq!(rt; outcome.disk.file(2), DOMAIN_HEADER.as_bytes());
+    Ok(image)
+}
+
+#[test]
+fn an_image_may_be_full_of_urls(rt: HostRuntime) -> Result<(), Fail> {
+    let image = full_of_urls(rt.alloc(), 131_072)?;
+    let outcome = scan(rt.alloc(), image.as_slice(), &[], &[])?;
     let text = "done pages=1 features=131072\nurl.txt 131072\n";
-    assert_eq!(rt; outcome.out.bytes(), text.as_bytes());
+    assert!(rt; is_done(&outcome, text) && is_full(&outcome.disk));
     Ok(())
 }

@@ -1,18 +1,18 @@
 use Rattle.std.proofs.Common.{◌≡◌, refl, arith, List, ℕ}
 use Rattle.byte_kit.specs.Counts.{Rose}
 use Rattle.host_source.specs.Sink.{Takes}
-use Rattle.triage_run.specs.Call.{call_over}
+use Rattle.triage_run.specs.Call.{call_over, and_readings, and_kit}
 use Rattle.triage_run.specs.Kept.{KeepsSource}
 use Rattle.triage_run.specs.Sources.{IsReady, OnlyParts}
 use Rattle.triage_run.specs.Words.{command_of}
-use Rattle.triage_run.proofs.AfterText.{cause_after, exact_after, parts_after, text_after}
+use Rattle.triage_run.proofs.AfterText.{cause_after, exact_after, readings_after, parts_after, text_after}
 use Rattle.triage_run.proofs.FirstSource.{first_changed, done_changed, first_holds, answers_of_first}
 use Rattle.triage_run.proofs.call.triage.Goals as goal
 
 pub returns-clause-sources : goal.returns-clause-sources
 returns-clause-sources g c =
     first_changed (KeepsSource g.S.Source.nature g.S.Source.faults) (λ x. record { same = refl; later = omega arith })
-    c.args.sources.items c.index_mut-first.result.now c.scan_words-scanned.new.source (omega arith) c.index_mut-first.ensures.value c.scan_words-scanned.ensures.source
+    c.args.sources.items c.index_mut-first.result.now c.scan_words-scanned.new.source (omega (arith, c.requires.sources.0)) c.index_mut-first.ensures.value c.scan_words-scanned.ensures.source
 
 pub returns-clause-slots : goal.returns-clause-slots
 returns-clause-slots g c =
@@ -25,19 +25,26 @@ returns-clause-answers g c =
     let scan = c.scan_words-scanned in
     let print = c.print_end-status in
     let rose = Rose (g.O.Sink.faults c.args.out) (g.O.Sink.faults print.new.sink) in
-    let call = call_over g.S.Source.nature g.S.Source.slots g.S.Source.faults g.D.Disk.nature g.D.Disk.files g.D.Disk.faults (command_of c.args.words.now)
-    c.index_mut-first.result.now scan.new.source c.args.disk scan.new.disk in
-    let takes : List ℕ → Type 0 = λ bytes. Takes (g.O.Sink.taken c.args.out) (g.O.Sink.taken print.new.sink) bytes in
-    answers_of_first g.S.Source.nature g.S.Source.slots g.S.Source.faults g.D.Disk.nature g.D.Disk.files g.D.Disk.faults g.O.Sink.taken g.O.Sink.faults _ _ _ _ _ _
-    c.args.sources.items c.index_mut-first.result.now scan.new.source (omega arith) c.index_mut-first.ensures.value
-    (cause_after call rose takes (λ none. absurd none) _ _ print.ensures.end scan.ensures.cause)
-    (exact_after call rose takes _ _ print.ensures.end scan.ensures.exact)
-    (parts_after call rose takes _ _ print.ensures.end scan.ensures.parts)
-    (text_after rose takes call.image scan.result print.result scan.ensures.refused print.ensures.end scan.ensures.found print.ensures.printed)
+    let readings = scan.ensures.scanned.0 in
+    let scanned = scan.ensures.scanned.1 in
+    let call = and_kit (g.K.Kit.refusals c.args.kit) (g.K.Kit.refusals scan.new.kit) (and_readings g.K.M.Matcher.reads g.K.M.Matcher.matches readings
+    (call_over g.S.Source.nature g.S.Source.slots g.S.Source.faults g.D.Disk.nature g.D.Disk.files g.D.Disk.faults (command_of c.args.words.now)
+    c.index_mut-first.result.now scan.new.source c.args.disk scan.new.disk)) in
+    let takes : List ℕ → Type 0 = λ bytes. Takes (g.O.Sink.taken c.args.out) (g.O.Sink.taken print.new.sink) bytes in (
+      readings,
+      answers_of_first g.S.Source.nature g.S.Source.slots g.S.Source.faults g.D.Disk.nature g.D.Disk.files g.D.Disk.faults
+          g.K.M.Matcher.reads g.K.M.Matcher.matches readings (g.K.Kit.refusals c.args.kit) (g.K.Kit.refusals scan.new.kit) g.O.Sink.taken g.O.Sink.faults _ _ _ _ _ _
+          c.args.sources.items c.index_mut-first.result.now scan.new.source (omega (arith, c.requires.sources.0)) c.index_mut-first.ensures.value
+          (cause_after call rose takes (λ none. absurd none) _ _ print.ensures.end scanned.cause)
+          (exact_after call rose takes _ _ print.ensures.end scanned.exact)
+          (readings_after call rose takes _ _ print.ensures.end scanned.readings)
+          (parts_after call rose takes _ _ print.ensures.end scanned.parts)
+          (text_after call rose takes scan.result print.result scan.ensures.refused print.ensures.end scanned.found print.ensures.printed),
+    )
 
 pub returns-clause-sure : goal.returns-clause-sure
 returns-clause-sure g c =
-    done_changed _ _ (λ s t. g.S.Source.faults t ≡ g.S.Source.faults s) (λ x. refl)
-    c.args.sources.items c.index_mut-first.result.now c.scan_words-scanned.new.source (omega arith) c.index_mut-first.ensures.value
+    done_changed _ _ _ (λ s t. g.S.Source.faults t ≡ g.S.Source.faults s) (λ x. refl)
+    c.args.sources.items c.index_mut-first.result.now c.scan_words-scanned.new.source (omega (arith, c.requires.sources.0)) c.index_mut-first.ensures.value
     _ c.scan_words-scanned.result c.print_end-status.result c.scan_words-scanned.ensures.refused c.print_end-status.ensures.end
     c.scan_words-scanned.ensures.sure c.print_end-status.ensures.sure

@@ -1,13 +1,14 @@
-use Rattle.std.proofs.Common.{◌≡◌, ◌≤◌, ◌-◌, length}
+use Rattle.std.proofs.Common.{◌≡◌, ◌≤◌, ◌-◌, length, map}
 use Rattle.triage_run.proofs.WholeReport.{items_of}
 use Rattle.triage_run.proofs.report.items_in.Given as goal
 
--- the features of the places ahead of `next` are classed
+-- the features of the places ahead of `next` are classed, and the matchers mean what they meant
 abbrev pub invariant-loop-next : goal.invariant-loop-next
-invariant-loop-next l = record {
+invariant-loop-next g l = record {
   high : l.next ≤ length l.image;
-  classed : l.items.items ≡ items_of l.image 0 l.next;
+  same : map g.M.Matcher.reading l.tools ≡ map g.M.Matcher.reading l.fn.matchers.items;
+  classed : l.items.items ≡ items_of (map g.M.Matcher.matches (map g.M.Matcher.reading l.fn.matchers.items)) l.plan l.image 0 l.next;
 }
 
 abbrev pub decreases-loop-next : goal.decreases-loop-next
-decreases-loop-next l = length l.image - l.next
+decreases-loop-next g l = length l.image - l.next

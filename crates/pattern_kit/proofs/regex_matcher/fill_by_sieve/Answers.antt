@@ -1,0 +1,16 @@
+use Rattle.std.proofs.Common.{sym, subst}
+use Rattle.regex.specs.Bytes.{matcher_pattern}
+use Rattle.regex_meta.specs.Programs.{pattern_of}
+use Rattle.pattern_kit.specs.Passing.{first_start, IsSieve}
+use Rattle.pattern_kit.specs.Readings.{match_at_front}
+use Rattle.pattern_kit.proofs.FrontLengths.{lengths_of}
+use Rattle.pattern_kit.proofs.regex_matcher.fill_by_sieve.Goals as goal
+
+pub fill_by_search-requires-clause-sieve : goal.fill_by_search-requires-clause-sieve
+fill_by_search-requires-clause-sieve c =
+    subst (λ p. IsSieve (first_start (pattern_of p)) (match_at_front (matcher_pattern c.in_ok-matcher.matcher))) (sym c.in_ok-search.ensures)
+    (subst (λ p. IsSieve (first_start (pattern_of c.args.sieve.now.program)) (match_at_front p)) (sym c.in_ok-matcher.ensures.pattern)
+    c.requires.sieve)
+
+pub returns : goal.returns
+returns c = lengths_of _ _ _ _ _ c.in_ok-matcher.ensures.pattern c.fill_by_search.ensures.lengths

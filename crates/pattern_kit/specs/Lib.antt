@@ -1,0 +1,9 @@
+pub mod Matching
+pub mod Building
+pub mod Meanings
+pub mod Words
+pub mod Readings
+pub mod Bounds
+pub mod Assertions
+pub mod Passing
+pub mod RegexMatchers
