@@ -1,2 +1,3 @@
 pub mod MarkLists
 pub mod SearchSteps
+pub mod ClassRuns

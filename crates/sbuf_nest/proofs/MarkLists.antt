@@ -6,7 +6,6 @@ use Rattle.std.proofs.lemmas.List.Concat.{flat_map-append}
 use Rattle.std.proofs.Math.Seq.{take-append-add}
 use Rattle.sbuf_nest.specs.Around.{Around, look_at}
 use Rattle.sbuf_nest.specs.Marks.{marks_of, AppendsFirst}
-use Rattle.sbuf_nest.specs.declared.mark.Mark.{Mark}
 
 range_with_len-split : (first a b : ℕ) → range_with_len first (a + b) ≡ range_with_len first a ++ range_with_len (first + a) b
 range_with_len-split first zero b =
@@ -18,7 +17,7 @@ range_with_len-split first (suc a) b =
     let f : first + suc a ≡ first + 1 + a = omega arith in
     rw (e, f) (ap (λ rest. first ∷ rest) (range_with_len-split (first + 1) a b))
 
-module _ (judge : Around → ℕ → List Mark) (bytes : List ℕ) where
+module _ {A : Type 0} (judge : Around → ℕ → List A) (bytes : List ℕ) where
   -- the marks of two ranges, one behind the other
   pub marks_of-split : (first a b : ℕ) → marks_of judge bytes first (a + b) ≡ marks_of judge bytes first a ++ marks_of judge bytes (first + a) b
   unfolding marks_of
@@ -63,16 +62,16 @@ module _ (judge : Around → ℕ → List Mark) (bytes : List ℕ) where
       (marks_of-none (first + 1) count (λ place low high. none place (omega arith) (omega arith)))
 
 -- nothing was appended
-pub AppendsFirst-none : (old marks : List Mark) → AppendsFirst old old marks
-AppendsFirst-none old marks = (0, sym (append-nil old))
+pub AppendsFirst-none : {A : Type 0} → (old marks : List A) → AppendsFirst old old marks
+AppendsFirst-none {A} old marks = (0, sym (append-nil old))
 
 -- the first few of the first marks
-pub AppendsFirst-front : (old new a b : List Mark) → AppendsFirst old new a → AppendsFirst old new (a ++ b)
-AppendsFirst-front old new a b h =
+pub AppendsFirst-front : {A : Type 0} → (old new a b : List A) → AppendsFirst old new a → AppendsFirst old new (a ++ b)
+AppendsFirst-front {A} old new a b h =
     let few = min h.0 (length a) in
     (few, h.1 ∙ ap (λ some. old ++ some) (sym (take_min h.0 a) ∙ sym (take-append-le few a b (omega arith))))
 
 -- all of the first marks, and the first few of those behind them
-pub AppendsFirst-behind : (old new a b : List Mark) → AppendsFirst (old ++ a) new b → AppendsFirst old new (a ++ b)
-AppendsFirst-behind old new a b h =
+pub AppendsFirst-behind : {A : Type 0} → (old new a b : List A) → AppendsFirst (old ++ a) new b → AppendsFirst old new (a ++ b)
+AppendsFirst-behind {A} old new a b h =
     (length a + h.0, h.1 ∙ append_assoc old a (take h.0 b) ∙ ap (λ some. old ++ some) (sym (take-append-add a b h.0)))

@@ -5,7 +5,12 @@ use Rattle.forensic_path.specs.declared.path.Decoder.{Decoder}
 use Rattle.forensic_path.specs.declared.path.Decoder.TheVariants.{Base64, Hex, Utf16, Xor}
 use Rattle.forensic_path.specs.declared.path.Step.{Step}
 use Rattle.forensic_path.specs.declared.path.Path.{Path}
-use Rattle.sbuf_nest.specs.declared.turn.Turn.{Turn}
+use Rattle.sbuf_nest.specs.declared.trail.Turn.{Turn}
+
+-- the turns so far, and how many there may be
+pub record Way : Type 0 where
+  pub limit : ℕ
+  pub turns : List Turn
 
 -- the turns with one more, at the place
 abbrev pub turned : List Turn → ℕ → Decoder → List Turn

@@ -10,17 +10,21 @@
 //! the places of nested buffers make a path.
 #![tactic(auto)]
 
+mod found;
 mod look;
 mod mark;
+mod runs;
 mod sbuf;
 mod search;
-mod turn;
+mod trail;
 
+pub use found::{Found, Items, Starts};
 pub use look::{LOOK_AFTER, LOOK_BEFORE, Look};
-pub use mark::{Extent, Found, Mark};
+pub use mark::{Extent, Mark, Start};
+pub use runs::{ByteClass, begins_run, next_row, run_len};
 pub use sbuf::Sbuf;
 pub use search::{Places, Search, find_marks};
-pub use turn::Turn;
+pub use trail::{Trail, Turn};
 
 #[cfg(test)]
 mod tests;

@@ -2,9 +2,8 @@
 ghost use Rattle.std.specs.Prelude.{◌≡◌, ◌-◌, ◌<◌, ◌≤◌, ◌++◌, ℕ, List, length, IfNone, IfSome, OnOk, OnErr};
 ghost use Rattle.sbuf_nest.specs.Around.{Around, seen};
 ghost use Rattle.sbuf_nest.specs.Marks.{marks_of, owned_marks, NoneFrom, AppendsFirst};
-ghost use Rattle.sbuf_nest.specs.declared.mark.Mark.{Mark};
 
-use crate::{Found, Look, Sbuf};
+use crate::{Items, Look, Sbuf};
 use byte_kit::NoMemory;
 
 /// The places of a buffer from `from` up to `to`, which is not one of them.
@@ -19,9 +18,12 @@ pub struct Places {
 /// What is searched for, and which places of a buffer have to be judged for it. The calls may change
 /// a search, as a matcher changes with each use, but never which marks a place has.
 pub trait Search {
+    /// What is found: a `Mark`, or a `Start`.
+    type Item: Copy;
+
     /// The marks of a place, in the order in which they are appended. They are judged by the place's
     /// Look; the place is for the marks themselves.
-    ghost judge: { Self → Around → ℕ → List Mark };
+    ghost judge: { Self → Around → ℕ → List Self.Item };
 
     /// The next places to be judged, one at least, of the owned ones from `next` on: none of those
     /// ahead of them has a mark. None is answered where no owned place from `next` on has one.
@@ -37,7 +39,12 @@ pub trait Search {
 
     /// Appends the marks of the place whose Look is given. Its one refusal is want of memory, which
     /// leaves the first few of them appended.
-    fn marks_into(&mut self, look: &Look, place: usize, found: &mut Found) -> Result<(), NoMemory>
+    fn marks_into(
+        &mut self,
+        look: &Look,
+        place: usize,
+        found: &mut Items<Self::Item>,
+    ) -> Result<(), NoMemory>
         ensures judge { judge self.new ≡ judge self.old }
         ensures ok { OnOk result (found.new ≡ found.old ++ judge self.old (seen look.now) place) }
         ensures err { OnErr result (AppendsFirst found.old found.new (judge self.old (seen look.now) place)) };
@@ -46,7 +53,11 @@ pub trait Search {
 /// Appends the marks of the places that the buffer owns, in order of place (`owned_marks`), each one
 /// judged by its Look alone. Its one refusal is want of memory, which leaves the first few of these
 /// marks appended. The search means afterwards what it meant before.
-pub fn find_marks<S: Search>(sb: &Sbuf, search: &mut S, found: &mut Found) -> Result<(), NoMemory>
+pub fn find_marks<S: Search>(
+    sb: &Sbuf,
+    search: &mut S,
+    found: &mut Items<S::Item>,
+) -> Result<(), NoMemory>
     ensures judge { S.judge search.new ≡ S.judge search.old }
     ensures ok { OnOk result (found.new ≡ found.old ++ owned_marks (S.judge search.old) sb.now) }
     ensures err { OnErr result (AppendsFirst found.old found.new (owned_marks (S.judge search.old) sb.now)) }
@@ -67,7 +78,7 @@ fn add_places<S: Search>(
     sb: &Sbuf,
     places: Places,
     search: &mut S,
-    found: &mut Found,
+    found: &mut Items<S::Item>,
 ) -> Result<(), NoMemory>
     requires ordered { places.from ≤ places.to }
     requires within { places.to ≤ length sb.now.bytes.now }

@@ -162,6 +162,8 @@ struct ByteSearch {
 }
 
 impl Search for ByteSearch {
+    type Item = Mark;
+
     ghost judge = { λ s look place. if option_map_or (λ first. first == s.byte) (slice_get look.after 0) false then marked Find 0 place (Some 1) ++ marked Find 1 place (Some 1) else [] };
 
     fn next_places(&mut self, sb: &Sbuf, next: usize) -> Option<Places> {

@@ -9,7 +9,7 @@ use Rattle.sbuf_nest.specs.Around.{Around, look_at}
 use Rattle.sbuf_nest.specs.Marks.{marks_of}
 use Rattle.sbuf_nest.specs.Turns.{path_at}
 use Rattle.sbuf_nest.specs.declared.mark.Mark.{Mark}
-use Rattle.sbuf_nest.specs.declared.turn.Turn.{Turn}
+use Rattle.sbuf_nest.specs.declared.trail.Turn.{Turn}
 use Rattle.scan_set.specs.Built.{IsBuilt}
 use Rattle.scan_set.specs.Here.{feature_of, here, owned}
 use Rattle.scan_set.specs.Events.{own_event, event_feature}

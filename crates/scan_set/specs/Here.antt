@@ -6,7 +6,7 @@ use Rattle.forensic_path.specs.declared.path.Path.{Path}
 use Rattle.forensic_path.specs.declared.feature.Feature.{Feature}
 use Rattle.sbuf_nest.specs.Around.{Around, look_at}
 use Rattle.sbuf_nest.specs.Turns.{turned, path_at, has_xor}
-use Rattle.sbuf_nest.specs.declared.turn.Turn.{Turn}
+use Rattle.sbuf_nest.specs.declared.trail.Turn.{Turn}
 use Rattle.decode_views.specs.Xor.{xored}
 use Rattle.scan_set.specs.Shapes.{Shape, shapes, when}
 use Rattle.scan_set.specs.Decoders.{Decoded, decoded}
