@@ -1,9 +1,10 @@
 -- A run of hexadecimal digits at a place, and its value (RFC 4648 section 8, in either case).
-use Rattle.std.specs.Prelude.{ℕ, ◌+◌, ◌*◌, ◌/◌, ◌&&◌, nat_eq, nat_le, min, List, [], ◌∷◌, take, codes, Option, Some, None, option_map, if◌then◌else◌}
+use Rattle.std.specs.Prelude.{◌≡◌, ℕ, ◌+◌, ◌*◌, ◌/◌, ◌&&◌, nat_eq, nat_le, min, List, [], ◌∷◌, take, codes, Option, Some, None, option_map, if◌then◌else◌}
 use Rattle.std.specs.List.{prefix_len, position_or_len}
 use Rattle.std.specs.Char.{to_ascii_lowercase}
 use Rattle.byte_kit.specs.Classes.{hex_class}
 use Rattle.sbuf_nest.specs.Around.{Around}
+use Rattle.sbuf_nest.specs.declared.mark.Extent.{Extent}
 use Rattle.sbuf_nest.specs.Edges.{begins_run}
 use Rattle.decode_hex.specs.declared.TheConstants.{DIGITS_LEAST, DIGITS_MOST}
 
@@ -16,6 +17,14 @@ unfoldable pub hex_extent : Around → Option ℕ
 hex_extent look =
     let run = prefix_len hex_class look.after in
     if begins_run hex_class look && nat_le DIGITS_LEAST run then Some (paired (min run DIGITS_MOST)) else None
+
+-- the run of digits at the place: the bytes that it covers, of which each one is a digit
+unfoldable pub hex_run : Around → Option Extent
+hex_run look = option_map (λ count. record { bytes = count; units = count }) (hex_extent look)
+
+-- a run of this extent stands at some place from which on these are the bytes
+abbrev pub IsRun : List ℕ → Extent → Type 0
+IsRun after extent = (before : List ℕ) × (hex_run (record { before = before; after = after }) ≡ Some extent)
 
 -- the sixteen digits, each at the place that is its number
 abbrev pub digits : List ℕ

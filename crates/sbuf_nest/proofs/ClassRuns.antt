@@ -7,7 +7,7 @@ use Rattle.std.proofs.lemmas.Bool.Decides.{nat_tests}
 use Rattle.std.proofs.lemmas.List.{get_or-drop, get_or-take, length-take}
 use Rattle.std.proofs.lemmas.List.Sums.{prefix_len_passes, prefix_len-le-length}
 use Rattle.std.proofs.lemmas.Option.{slice_get-get_or}
-use Rattle.sbuf_nest.specs.Around.{Around, look_at}
+use Rattle.sbuf_nest.specs.Around.{look_at}
 use Rattle.sbuf_nest.specs.Edges.{begins_run}
 use Rattle.sbuf_nest.specs.Runs.{begins_row, NoRowFrom}
 use Rattle.sbuf_nest.specs.declared.look.TheConstants.{LOOK_BEFORE, LOOK_AFTER}

@@ -18,7 +18,7 @@ ghost use Rattle.scan_exec.specs.Signatures.{begin_signature, may_begin};
 use crate::{exec_at, unread_at};
 use byte_kit::NoMemory;
 use forensic_path::Kind;
-use sbuf_nest::{Found, Look, Places, Sbuf, Search, find_marks};
+use sbuf_nest::{Found, Look, Mark, Places, Sbuf, Search, find_marks};
 use std::simd::prelude::*;
 use vector_search::{PlaceTest, by_high_half, next_place};
 
@@ -51,6 +51,8 @@ struct ExecSearch {
 }
 
 impl Search for ExecSearch {
+    type Item = Mark;
+
     ghost judge = { λ s. exec_marks s.want_exec s.want_unread };
 
     // The next place where a signature may begin.

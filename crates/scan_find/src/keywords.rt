@@ -13,7 +13,7 @@ use crate::chains::Chains;
 use crate::front::Front;
 use byte_kit::{Bytes, NoMemory};
 use forensic_path::Kind;
-use sbuf_nest::{Found, Look, Places, Sbuf, Search};
+use sbuf_nest::{Found, Look, Mark, Places, Sbuf, Search};
 use vector_search::next_place;
 
 // Keywords, the test of places that goes ahead of them, and their chains.
@@ -127,6 +127,8 @@ pub(crate) struct KeywordSearch<'s, 'a> {
 }
 
 impl<'s, 'a> Search for KeywordSearch<'s, 'a> {
+    type Item = Mark;
+
     ghost judge = { λ s look place. numbered_marks (λ keyword. keyword_of keyword look) 0 s.keywords.now.items.now place };
 
     // The next place where a keyword may stand.

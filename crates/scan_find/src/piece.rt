@@ -11,7 +11,7 @@ use crate::keywords::Keywords;
 use crate::lengths::Row;
 use byte_kit::NoMemory;
 use forensic_path::Kind;
-use sbuf_nest::{Found, Look, Places, Sbuf, Search};
+use sbuf_nest::{Found, Look, Mark, Places, Sbuf, Search};
 use std::simd::prelude::*;
 use vector_search::{PlaceTest, next_place};
 
@@ -27,6 +27,8 @@ pub(crate) struct PieceSearch<'s, 'a> {
 }
 
 impl<'s, 'a> Search for PieceSearch<'s, 'a> {
+    type Item = Mark;
+
     ghost judge = { λ s look place.
         if slice_index s.hits.now (place - s.first) == 0 then [] else
         numbered_marks (λ keyword. keyword_of keyword look) 0 s.keywords.now.items.now place

@@ -18,7 +18,7 @@ use crate::filter::HeaderTest;
 use crate::{ETHER_SIZE, ether_at, ipv4_at};
 use byte_kit::NoMemory;
 use forensic_path::Kind;
-use sbuf_nest::{Found, Look, Places, Sbuf, Search, find_marks};
+use sbuf_nest::{Found, Look, Mark, Places, Sbuf, Search, find_marks};
 use vector_search::next_place;
 
 /// Appends the marks of the IPv4 and Ethernet headers that stand at the places that the buffer owns, in
@@ -38,6 +38,8 @@ pub fn find_packets(sb: &Sbuf, found: &mut Found) -> Result<(), NoMemory>
 struct PacketSearch;
 
 impl Search for PacketSearch {
+    type Item = Mark;
+
     ghost judge = { λ _. packet_marks };
 
     // The places from `ETHER_SIZE` ahead of the next one where an IPv4 header may begin, up to it.

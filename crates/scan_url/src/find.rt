@@ -16,7 +16,7 @@ use crate::{domain_len, url_len};
 use byte_kit::NoMemory;
 use forensic_path::Kind;
 use memchr::memmem::Finder;
-use sbuf_nest::{Found, Look, Places, Sbuf, Search, find_marks};
+use sbuf_nest::{Found, Look, Mark, Places, Sbuf, Search, find_marks};
 
 // What every scheme ends with, behind its name.
 const SCHEME_END: &[u8] = b"://";
@@ -62,6 +62,8 @@ struct UrlSearch<'a> {
 }
 
 impl<'a> Search for UrlSearch<'a> {
+    type Item = Mark;
+
     ghost judge = { λ s. url_marks s.want_url s.want_domain };
 
     // The places ahead of the next `://` where a scheme of its may begin, or, behind these, the one

@@ -17,7 +17,7 @@ use crate::filter::{RowTest, StrangerTest, next_near};
 use crate::{WORD_MOST, word_len};
 use byte_kit::{NoMemory, is_word};
 use forensic_path::Kind;
-use sbuf_nest::{Found, Look, Places, Sbuf, Search, find_marks};
+use sbuf_nest::{Found, Look, Mark, Places, Sbuf, Search, find_marks};
 
 /// Appends the marks of the words that begin at the places that the buffer owns, in order of place. A
 /// word has at least `min` and at most `max` bytes, which are 1 to `WORD_MOST`; the extent is `word_len`
@@ -43,6 +43,8 @@ struct WordSearch {
 }
 
 impl Search for WordSearch {
+    type Item = Mark;
+
     ghost judge = { λ s. word_marks s.min s.max };
 
     // The next place with enough word bytes in a row, behind the run that `next` may stand in.

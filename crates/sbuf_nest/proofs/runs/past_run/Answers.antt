@@ -1,4 +1,4 @@
-use Rattle.std.proofs.Common.{◌≡◌, ◌<◌, arith}
+use Rattle.std.proofs.Common.{arith}
 use Rattle.sbuf_nest.proofs.ClassRuns.{none_inside}
 use Rattle.sbuf_nest.proofs.runs.past_run.Goals as goal
 

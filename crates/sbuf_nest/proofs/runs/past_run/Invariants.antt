@@ -1,4 +1,4 @@
-use Rattle.std.proofs.Common.{◌≡◌, ℕ, ◌-◌, ◌<◌, ◌≤◌, true}
+use Rattle.std.proofs.Common.{◌≡◌, ℕ, ◌-◌, ◌≤◌, true}
 use Rattle.std.specs.Prelude.{slice_index}
 use Rattle.sbuf_nest.proofs.runs.past_run.Given as goal
 
