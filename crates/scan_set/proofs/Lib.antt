@@ -1,4 +1,3 @@
-pub mod Blocks
 pub mod Contexts
 pub mod Images
 pub mod Merging
@@ -6,3 +5,8 @@ mod Rows
 pub mod Says
 pub mod Searches
 pub mod Shown
+pub mod Stands
+pub mod Views
+pub mod Given
+pub mod Levels
+pub mod Fitting

@@ -4,4 +4,5 @@ pub mod Here
 pub mod Marks
 pub mod Merged
 pub mod Events
-pub mod Built
+pub mod Fits
+pub mod Lawful

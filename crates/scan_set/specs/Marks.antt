@@ -1,12 +1,10 @@
 -- What the searches of a buffer list, and the feature that each mark of it makes.
 use Rattle.std.specs.Prelude.{ℕ, ◌+◌, ◌==◌, List, [], ◌++◌, take, Option, Some, None, if◌then◌else◌}
 use Rattle.forensic_path.specs.declared.scanner.Scanner.TheVariants as scanner
-use Rattle.forensic_path.specs.declared.feature.Feature.{Feature}
 use Rattle.forensic_path.specs.declared.feature.Kind.{Kind}
 use Rattle.forensic_path.specs.declared.feature.Kind.TheVariants.{Ip, Ether, Exec, Unread}
 use Rattle.forensic_path.specs.Scanners.{is_on}
-use Rattle.sbuf_nest.specs.Around.{Around, look_at}
-use Rattle.sbuf_nest.specs.Turns.{path_at}
+use Rattle.sbuf_nest.specs.Around.{Around}
 use Rattle.sbuf_nest.specs.declared.mark.Mark.{Mark}
 use Rattle.scan_url.specs.Marks.{url_marks}
 use Rattle.scan_net.specs.Marks.{packet_marks}
@@ -16,7 +14,6 @@ use Rattle.scan_exec.specs.Exec.{Header, exec_of, unread_of}
 use Rattle.scan_find.specs.Marks.{given_marks}
 use Rattle.scan_wordlist.specs.Marks.{word_marks}
 use Rattle.scan_set.specs.Shapes.{Shape, when}
-use Rattle.scan_set.specs.Here.{feature_of}
 use Rattle.scan_set.specs.declared.plan.ScanPlan.{ScanPlan}
 
 -- the marks of a place by each search, of its scanners that are on
@@ -65,8 +62,3 @@ text_of look mark = kind_text mark.kind mark.which mark.extent look
 -- what a mark says of its place
 abbrev pub shape_of : Around → Mark → Shape
 shape_of look mark = record { kind = mark.kind; text = text_of look mark; extent = mark.extent }
-
--- the feature of a mark, in a buffer whose byte 0 stands at the base
-abbrev pub marked_feature : ScanPlan → List ℕ → ℕ → Mark → Feature
-marked_feature plan bytes base mark =
-    feature_of plan (look_at bytes mark.at) (path_at [] (base + mark.at)) (shape_of (look_at bytes mark.at) mark)

@@ -1,68 +1,35 @@
-// The features of events.
+// The feature of a mark.
 ghost use Rattle.std.specs.Prelude.{◌≡◌, ◌<◌, [], ◌∷◌, ◌++◌, length, IfOk, OnOk};
 ghost use Rattle.sbuf_nest.specs.Around.{seen, look_at};
 ghost use Rattle.scan_net.specs.Packet.{ip_of, ether_of};
 ghost use Rattle.scan_exec.specs.Exec.{exec_of, unread_of};
-ghost use Rattle.scan_set.specs.Events.{event_feature};
-ghost use Rattle.scan_set.specs.Here.{context_of};
-ghost use Rattle.scan_set.specs.Marks.{text_of, address_text, header_text, marked_feature};
+ghost use Rattle.scan_set.specs.Here.{context_of, feature_of};
+ghost use Rattle.scan_set.specs.Marks.{text_of, address_text, header_text, shape_of};
 
 use crate::ScanPlan;
-use crate::event::{Event, Sign};
 use byte_kit::{Bytes, NoMemory};
-use forensic_path::{Feature, Kind, Path, Steps};
+use forensic_path::{Feature, Kind, Path};
 use sbuf_nest::{LOOK_AFTER, LOOK_BEFORE, Look, Mark, Sbuf};
 use scan_exec::{exec_at, exec_text, unread_at};
 use scan_net::{ether_at, ether_text, ip_text, ipv4_at};
 use std::alloc::Global;
 
-// Appends the feature of an event of the buffer. It is made where it is to stand: a feature that is
-// handed up as a result is moved twice.
-pub(crate) fn add_event(
-    alloc: Global,
-    sb: &Sbuf,
-    plan: &ScanPlan,
-    event: &Event,
-    out: &mut Vec<Feature>,
-) -> Result<(), NoMemory>
-    requires { event.now.at < length sb.now.bytes.now }
-    ensures { OnOk result (out.new.items ≡ out.old.items ++ event_feature plan.now sb.now.bytes.now sb.now.base event.now ∷ []) }
-{
-    match event.sign {
-        Sign::Own {
-            kind,
-            which,
-            extent,
-        } => {
-            let mark = Mark {
-                at: event.at,
-                kind,
-                which,
-                extent,
-            };
-            add_marked(alloc, sb, plan, &mark, out)
-        }
-    }
-}
-
-// Appends the feature of a mark of the buffer.
-fn add_marked(
+// Appends the feature of a mark of the buffer, at its path. It is made where it is to stand: a feature
+// that is handed up as a result is moved twice.
+pub(crate) fn add_marked(
     alloc: Global,
     sb: &Sbuf,
     plan: &ScanPlan,
     mark: &Mark,
+    path: Path,
     out: &mut Vec<Feature>,
 ) -> Result<(), NoMemory>
     requires { mark.now.at < length sb.now.bytes.now }
-    ensures { OnOk result (out.new.items ≡ out.old.items ++ marked_feature plan.now sb.now.bytes.now sb.now.base mark.now ∷ []) }
+    ensures { OnOk result (out.new.items ≡ out.old.items ++ feature_of plan.now (look_at sb.now.bytes.now mark.now.at) path (shape_of (look_at sb.now.bytes.now mark.now.at) mark.now) ∷ []) }
 {
     let look = sb.look(mark.at);
     let feature = text_of(alloc, &look, mark)?;
     let context = context_of(alloc, sb, mark.at, mark.extent, plan.context)?;
-    let path = Path {
-        top: sb.place(mark.at),
-        steps: Steps::make(alloc),
-    };
     out.push(Feature {
         kind: mark.kind,
         path,

@@ -18,13 +18,15 @@
 
 mod event;
 mod feature;
+mod level;
 mod merge;
+mod nest;
 mod plan;
 mod scan;
 mod search;
 mod tools;
 
-pub use plan::ScanPlan;
+pub use plan::{DEPTH_MOST, ScanPlan};
 pub use scan::scan_owned;
 pub use tools::Tools;
 

@@ -3,97 +3,94 @@
 // Each search lists what it found in order of place. Lists of two searches are merged in one pass, and
 // where one of them is empty nothing is copied twice.
 ghost use Rattle.std.specs.Prelude.{◌≡◌, [], ◌++◌, map, IfOk, OnOk};
-ghost use Rattle.scan_set.specs.Events.{event_place, own_event, merged_events};
+ghost use Rattle.scan_set.specs.Events.{event_place, merged_events};
 ghost use Rattle.scan_set.specs.Merged.{ahead, behind};
 
-use crate::event::Event;
+use crate::event::{Event, Listed};
 use byte_kit::NoMemory;
-use sbuf_nest::{Found, Mark};
-use scan_find::Lengths;
 use std::alloc::Global;
 use std::mem;
 
-// The lists that searches fill. None is made anew for a block.
+// The events that the searches of a block have found, in order of place.
 #[derive(Drop)]
-pub(crate) struct Lists {
+pub(crate) struct Events {
     // What the searches so far have found.
-    pub(crate) events: Vec<Event>,
-    // What the last search has found.
-    pub(crate) found: Found,
+    pub(crate) items: Vec<Event>,
     // Room to merge.
-    pub(crate) spare: Vec<Event>,
-    // What the patterns match, place by place.
-    pub(crate) lengths: Lengths,
+    spare: Vec<Event>,
 }
 
-impl Lists {
-    // Empty lists. They take no memory.
-    pub(crate) fn make(alloc: Global) -> Lists {
-        Lists {
-            events: Vec::new(alloc),
-            found: Found::make(alloc),
+impl Events {
+    // No events. They take no memory.
+    pub(crate) fn make(alloc: Global) -> Events {
+        Events {
+            items: Vec::new(alloc),
             spare: Vec::new(alloc),
-            lengths: Lengths::make(alloc),
         }
     }
 
-    // Merges what the last search has found into the events. At one place it comes behind what was
-    // found before.
-    pub(crate) fn merge(&mut self) -> Result<(), NoMemory>
-        ensures { OnOk result (self.new.events.items ≡ merged_events self.old.events.items (map own_event self.old.found)) }
+    // Merges what a search has found. At one place it comes behind what was found before.
+    pub(crate) fn merge<L: Listed>(&mut self, found: &[L]) -> Result<(), NoMemory>
+        ensures { OnOk result (self.new.items.items ≡ merged_events self.old.items.items (map L.event found.now)) }
     {
-        let marks = self.found.marks();
-        if marks.is_empty() {
+        if found.is_empty() {
             return Ok(());
         }
-        if self.events.is_empty() {
-            return append_marks(marks, &mut self.events);
+        if self.items.is_empty() {
+            return append_all(found, &mut self.items);
         }
         self.spare.clear();
-        merge_into(self.events.as_slice(), marks, &mut self.spare)?;
-        mem::swap(&mut self.events, &mut self.spare);
+        merge_into(self.items.as_slice(), found, &mut self.spare)?;
+        mem::swap(&mut self.items, &mut self.spare);
         Ok(())
     }
 }
 
 // Appends both by place, at one place the events first.
-fn merge_into(events: &[Event], marks: &[Mark], into: &mut Vec<Event>) -> Result<(), NoMemory>
-    ensures { OnOk result (into.new.items ≡ into.old.items ++ merged_events events.now (map own_event marks.now)) }
+fn merge_into<L: Listed>(
+    events: &[Event],
+    found: &[L],
+    into: &mut Vec<Event>,
+) -> Result<(), NoMemory>
+    ensures { OnOk result (into.new.items ≡ into.old.items ++ merged_events events.now (map L.event found.now)) }
 {
     into.reserve(events.len())?;
-    let mut left = marks;
+    let mut left = found;
     for event in events {
         left = pass_ahead(event.at, left, into)?;
         into.push(*event)?;
     }
-    append_marks(left, into)
+    append_all(left, into)
 }
 
-// Appends those marks in front that stand ahead of the place, and lends the ones behind them.
-fn pass_ahead<'a>(
+// Appends those in front that stand ahead of the place, and lends the ones behind them.
+fn pass_ahead<'a, L: Listed>(
     place: usize,
-    marks: &'a [Mark],
+    found: &'a [L],
     into: &mut Vec<Event>,
-) -> Result<&'a [Mark], NoMemory>
-    ensures ahead { OnOk result (into.new.items ≡ into.old.items ++ ahead event_place place (map own_event marks.now)) }
-    ensures behind { IfOk result (λ left. map own_event left.now ≡ behind event_place place (map own_event marks.now)) }
+) -> Result<&'a [L], NoMemory>
+    ensures ahead { OnOk result (into.new.items ≡ into.old.items ++ ahead event_place place (map L.event found.now)) }
+    ensures behind { IfOk result (λ left. map L.event left.now ≡ behind event_place place (map L.event found.now)) }
 {
-    for i in 0..marks.len() {
-        if marks[i].at >= place {
-            return Ok(marks.split_at(i).1);
+    let mut left = found;
+    while let Some((first, rest)) = left.split_first() {
+        let event = first.event();
+        if event.at >= place {
+            return Ok(left);
         }
-        into.push(Event::own(&marks[i]))?;
+        into.push(event)?;
+        left = rest;
     }
-    Ok(&[])
+    Ok(left)
 }
 
-// Appends the events of the marks.
-fn append_marks(marks: &[Mark], into: &mut Vec<Event>) -> Result<(), NoMemory>
-    ensures { OnOk result (into.new.items ≡ into.old.items ++ map own_event marks.now) }
+// Appends the events of what was found.
+fn append_all<L: Listed>(found: &[L], into: &mut Vec<Event>) -> Result<(), NoMemory>
+    ensures { OnOk result (into.new.items ≡ into.old.items ++ map L.event found.now) }
 {
-    into.reserve(marks.len())?;
-    for mark in marks {
-        into.push(Event::own(mark))?;
+    into.reserve(found.len())?;
+    for item in found {
+        into.push(item.event())?;
     }
     Ok(())
 }

@@ -1,12 +1,15 @@
 // What a scan looks for.
 use byte_kit::{Names, Texts};
 
+/// How many buffers deep decoded bytes are searched at most.
+pub const DEPTH_MOST: u8 = 7;
+
 /// What a scan looks for, and how deep.
 #[derive(Drop)]
 pub struct ScanPlan {
     /// The scanners and decoders that are on, a bit each (`Scanner::bit`).
     pub scanners: u16,
-    /// How many buffers deep decoded bytes are searched, 0 to 7.
+    /// How many buffers deep decoded bytes are searched, 0 to `DEPTH_MOST`.
     pub depth: u8,
     /// The mask of the XOR view, or 0 for none.
     pub mask: u8,

@@ -1,16 +1,17 @@
 // The searches of a block.
-ghost use Rattle.std.specs.Prelude.{◌≡◌, ◌≤◌, length, map, OnOk};
+ghost use Rattle.std.specs.Prelude.{◌≡◌, ◌≤◌, false, length, map, OnOk};
 ghost use Rattle.sbuf_nest.specs.Marks.{owned_marks};
-ghost use Rattle.scan_set.specs.Events.{own_event};
-ghost use Rattle.scan_set.specs.Marks.{urls_at, packets_at, execs_at, given_at, words_at, marks_at};
-ghost use Rattle.scan_set.specs.Built.{IsLawful};
+ghost use Rattle.scan_set.specs.Decoders.{base64_at, hex_at, utf16_at};
+ghost use Rattle.scan_set.specs.Events.{plain_events, text_event, merged_events};
+ghost use Rattle.scan_set.specs.Marks.{urls_at, packets_at, execs_at, given_at, words_at};
+ghost use Rattle.scan_set.specs.Lawful.{IsLawful};
 ghost use Rattle.scan_find.specs.declared.TheConstants.{PATTERNS_MOST};
 
 use crate::ScanPlan;
-use crate::merge::Lists;
+use crate::merge::Events;
 use byte_kit::NoMemory;
 use forensic_path::Scanner;
-use sbuf_nest::{Found, Sbuf};
+use sbuf_nest::{Found, Sbuf, Starts};
 use scan_exec::find_execs;
 use scan_find::{Lengths, Matcher, PATTERNS_MOST, find_given_into};
 use scan_net::find_packets;
@@ -18,9 +19,58 @@ use scan_url::find_urls;
 use scan_wordlist::find_words;
 use std::alloc::Global;
 
-// Lists the events of a block, each scanner's where it is on, in place of those that were listed. The
-// matchers mean afterwards what they meant before.
+// The lists that searches fill. None is made anew for a block.
+#[derive(Drop)]
+pub(crate) struct Lists {
+    // What all searches have found.
+    pub(crate) events: Events,
+    // What the last search of a scanner has found.
+    found: Found,
+    // What the last search of a decoder has found.
+    starts: Starts,
+    // What the patterns match, place by place.
+    lengths: Lengths,
+}
+
+impl Lists {
+    // Empty lists. They take no memory.
+    pub(crate) fn make(alloc: Global) -> Lists {
+        Lists {
+            events: Events::make(alloc),
+            found: Found::make(alloc),
+            starts: Starts::make(alloc),
+            lengths: Lengths::make(alloc),
+        }
+    }
+}
+
+// Lists the events of a block, those of each scanner that is on, and where `nests` says so those of each
+// decoder that is on, in place of those that were listed. The matchers mean afterwards what they meant
+// before.
 pub(crate) fn search_block<M: Matcher>(
+    alloc: Global,
+    block: &Sbuf,
+    plan: &ScanPlan,
+    nests: bool,
+    matchers: &mut [M],
+    lists: &mut Lists,
+) -> Result<(), NoMemory>
+    requires lawful { IsLawful plan.now }
+    requires patterns { length matchers.old ≤ PATTERNS_MOST }
+    ensures same { map M.reading matchers.new ≡ map M.reading matchers.old }
+    ensures ok { OnOk result
+        (lists.new.events.items.items ≡ owned_marks (plain_events (map M.matches (map M.reading matchers.old)) plan.now nests) block.now) }
+{
+    search_scanners(alloc, block, plan, matchers, lists)?;
+    if !nests {
+        return Ok(());
+    }
+    search_decoders(block, plan, lists)?;
+    Ok(())
+}
+
+// Lists the events of the scanners.
+fn search_scanners<M: Matcher>(
     alloc: Global,
     block: &Sbuf,
     plan: &ScanPlan,
@@ -31,15 +81,15 @@ pub(crate) fn search_block<M: Matcher>(
     requires patterns { length matchers.old ≤ PATTERNS_MOST }
     ensures same { map M.reading matchers.new ≡ map M.reading matchers.old }
     ensures ok { OnOk result
-        (lists.new.events.items ≡ map own_event (owned_marks (marks_at (map M.matches (map M.reading matchers.old)) plan.now) block.now)) }
+        (lists.new.events.items.items ≡ owned_marks (plain_events (map M.matches (map M.reading matchers.old)) plan.now false) block.now) }
 {
-    lists.events.clear();
+    lists.events.items.clear();
     search_urls(block, plan, &mut lists.found)?;
-    lists.merge()?;
+    lists.events.merge(lists.found.marks())?;
     search_packets(block, plan, &mut lists.found)?;
-    lists.merge()?;
+    lists.events.merge(lists.found.marks())?;
     search_execs(block, plan, &mut lists.found)?;
-    lists.merge()?;
+    lists.events.merge(lists.found.marks())?;
     search_given(
         alloc,
         block,
@@ -48,9 +98,26 @@ pub(crate) fn search_block<M: Matcher>(
         &mut lists.lengths,
         &mut lists.found,
     )?;
-    lists.merge()?;
+    lists.events.merge(lists.found.marks())?;
     search_words(block, plan, &mut lists.found)?;
-    lists.merge()?;
+    lists.events.merge(lists.found.marks())?;
+    Ok(())
+}
+
+// Adds the events of the decoders to those of the scanners.
+fn search_decoders(block: &Sbuf, plan: &ScanPlan, lists: &mut Lists) -> Result<(), NoMemory>
+    ensures { OnOk result
+        (lists.new.events.items.items ≡ merged_events (merged_events (merged_events lists.old.events.items.items
+            (map text_event (owned_marks (base64_at plan.now) block.now)))
+            (map text_event (owned_marks (hex_at plan.now) block.now)))
+            (map text_event (owned_marks (utf16_at plan.now) block.now))) }
+{
+    search_base64(block, plan, &mut lists.starts)?;
+    lists.events.merge(lists.starts.items())?;
+    search_hex(block, plan, &mut lists.starts)?;
+    lists.events.merge(lists.starts.items())?;
+    search_utf16(block, plan, &mut lists.starts)?;
+    lists.events.merge(lists.starts.items())?;
     Ok(())
 }
 
@@ -130,4 +197,37 @@ fn search_words(block: &Sbuf, plan: &ScanPlan, found: &mut Found) -> Result<(), 
         return Ok(());
     }
     find_words(block, plan.word_min, plan.word_max, found)
+}
+
+// Lists the starts of Base64 texts.
+fn search_base64(block: &Sbuf, plan: &ScanPlan, starts: &mut Starts) -> Result<(), NoMemory>
+    ensures { OnOk result (starts.new ≡ owned_marks (base64_at plan.now) block.now) }
+{
+    starts.clear();
+    if !Scanner::Base64.is_on(plan.scanners) {
+        return Ok(());
+    }
+    decode_base64::find_texts(block, starts)
+}
+
+// Lists the starts of runs of hexadecimal digits.
+fn search_hex(block: &Sbuf, plan: &ScanPlan, starts: &mut Starts) -> Result<(), NoMemory>
+    ensures { OnOk result (starts.new ≡ owned_marks (hex_at plan.now) block.now) }
+{
+    starts.clear();
+    if !Scanner::Hex.is_on(plan.scanners) {
+        return Ok(());
+    }
+    decode_hex::find_runs(block, starts)
+}
+
+// Lists the starts of runs of UTF-16 pairs.
+fn search_utf16(block: &Sbuf, plan: &ScanPlan, starts: &mut Starts) -> Result<(), NoMemory>
+    ensures { OnOk result (starts.new ≡ owned_marks (utf16_at plan.now) block.now) }
+{
+    starts.clear();
+    if !Scanner::Utf16.is_on(plan.scanners) {
+        return Ok(());
+    }
+    decode_views::find_runs(block, starts)
 }

@@ -1,11 +1,14 @@
-use Rattle.std.proofs.Common.{◌≡◌, ◌++◌, map, drop}
-use Rattle.scan_set.specs.Events.{event_place, own_event}
+use Rattle.std.proofs.Common.{◌≡◌, ◌++◌, map, length}
+use Rattle.scan_set.specs.Events.{event_place}
 use Rattle.scan_set.specs.Merged.{ahead, behind}
 use Rattle.scan_set.proofs.merge.pass_ahead.Given as goal
 
--- the marks passed are appended, and stand ahead of the place
-abbrev pub invariant-loop-i : goal.invariant-loop-i
-invariant-loop-i l = record {
-  ahead : l.into.items ++ ahead event_place l.place (map own_event (drop l.i l.marks)) ≡ l.fn.into.items ++ ahead event_place l.place (map own_event l.marks);
-  behind : behind event_place l.place (map own_event (drop l.i l.marks)) ≡ behind event_place l.place (map own_event l.marks);
+-- the events of the items passed are appended, and stand ahead of the place
+abbrev pub invariant-loop-first : goal.invariant-loop-first
+invariant-loop-first g l = record {
+  ahead : l.into.items ++ ahead event_place l.place (map g.L.Listed.event l.left) ≡ l.fn.into.items ++ ahead event_place l.place (map g.L.Listed.event l.found);
+  behind : behind event_place l.place (map g.L.Listed.event l.left) ≡ behind event_place l.place (map g.L.Listed.event l.found);
 }
+
+abbrev pub decreases-loop-first : goal.decreases-loop-first
+decreases-loop-first g l = length l.left

@@ -1,11 +1,9 @@
-use Rattle.std.proofs.Common.{◌≡◌, ◌∙◌, map, ap, List}
+use Rattle.std.proofs.Common.{◌≡◌, ◌∙◌, ◌-◌, map, refl, true, false}
 use Rattle.sbuf_nest.specs.Marks.{owned_marks}
-use Rattle.sbuf_nest.specs.declared.mark.Mark.{Mark}
-use Rattle.scan_set.specs.Events.{own_event, merged_events}
-use Rattle.scan_set.specs.Marks.{urls_at, packets_at, execs_at, given_at, words_at}
-use Rattle.scan_set.specs.declared.event.Event.{Event}
-use Rattle.scan_set.proofs.Says.{url_shapes, packet_shapes, exec_shapes, given_shapes, word_shapes, urls_say, packets_say, execs_say, given_say, words_say}
-use Rattle.scan_set.proofs.Searches.{Tells, both, tells_both, one_more}
+use Rattle.scan_set.specs.Decoders.{base64_at, hex_at, utf16_at}
+use Rattle.scan_set.specs.Events.{text_event, merged_events, plain_events}
+use Rattle.scan_set.proofs.Searches.{listed, both, stands_both, one_more, alike}
+use Rattle.scan_set.proofs.Stands.{base64_stand, hex_stand, utf16_stand, plain_stand, decoders_alike}
 use Rattle.scan_set.proofs.search.search_block.Goals as goal
 
 pub returns-clause-ok : goal.returns-clause-ok
@@ -13,20 +11,15 @@ returns-clause-ok g c =
     let plan = c.args.plan.now in
     let block = c.args.block.now in
     let patterns = map g.M.Matcher.matches (map g.M.Matcher.reading c.args.matchers.now) in
-    let urls : Tells (urls_at plan) = λ look place. (url_shapes plan look place, urls_say plan look place) in
-    let packets : Tells (packets_at plan) = λ look place. (packet_shapes plan look place, packets_say plan look place) in
-    let execs : Tells (execs_at plan) = λ look place. (exec_shapes plan look place, execs_say plan look place) in
-    let given : Tells (given_at patterns plan) = λ look place. (given_shapes plan look place patterns, given_say plan look place patterns) in
-    let words : Tells (words_at plan) = λ look place. (word_shapes plan look place, words_say plan look place) in
-    let first : c.merge.new.self.events.items ≡ map own_event (owned_marks (urls_at plan) block) =
-    c.in_ok-merge.ensures ∙ ap (λ (front : List Event). merged_events front (map own_event c.search_urls.new.found)) c.clear.ensures.items
-    ∙ ap (λ (marks : List Mark). map own_event marks) c.in_ok-search_urls.ensures in
-    let second = one_more (urls_at plan) (packets_at plan) urls packets block _ _ _ first c.in_ok-search_packets.ensures c.in_ok-merge-2.ensures in
-    let two = both (urls_at plan) (packets_at plan) in
-    let tells_two = tells_both (urls_at plan) (packets_at plan) urls packets in
-    let third = one_more two (execs_at plan) tells_two execs block _ _ _ second c.in_ok-search_execs.ensures c.in_ok-merge-3.ensures in
-    let three = both two (execs_at plan) in
-    let tells_three = tells_both two (execs_at plan) tells_two execs in
-    let fourth = one_more three (given_at patterns plan) tells_three given block _ _ _ third c.in_ok-search_given.ensures.ok c.in_ok-merge-4.ensures in
-    one_more (both three (given_at patterns plan)) (words_at plan) (tells_both three (given_at patterns plan) tells_three given) words block _ _ _
-    fourth c.in_ok-search_words.ensures c.in_ok-merge-5.ensures
+    let one = plain_events patterns plan false in
+    let two = both one (listed text_event (base64_at plan)) in
+    let three = both two (listed text_event (hex_at plan)) in
+    let stand_one = plain_stand patterns plan false in
+    let stand_two = stands_both one (listed text_event (base64_at plan)) stand_one (base64_stand patterns plan) in
+    let stand_three = stands_both two (listed text_event (hex_at plan)) stand_two (hex_stand patterns plan) in
+    let first = one_more text_event one (base64_at plan) stand_one (base64_stand patterns plan) block _ _ _ c.in_ok-search_scanners.ensures.ok refl refl in
+    let second = one_more text_event two (hex_at plan) stand_two (hex_stand patterns plan) block _ _ _ first refl refl in
+    let third = one_more text_event three (utf16_at plan) stand_three (utf16_stand patterns plan) block _ _ _ second refl c.in_ok-search_decoders.ensures in
+    let on : c.args.nests ≡ true = c.if-not-nests.false in
+    rw on (third ∙ alike block.bytes.now (both three (listed text_event (utf16_at plan))) (plain_events patterns plan true) (decoders_alike patterns plan)
+    block.own_from (block.own_to - block.own_from))
