@@ -22,3 +22,6 @@ pub const PAIRS_LEAST: usize = 8;
 
 /// How many pairs of a run are taken at most.
 pub const PAIRS_MOST: usize = 4096;
+
+#[cfg(test)]
+mod tests;
