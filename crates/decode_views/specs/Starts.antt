@@ -1,4 +1,4 @@
--- What a search for runs of pairs appends, and where it looks closer.
+-- What a search for runs of pairs appends.
 use Rattle.std.specs.Prelude.{ℕ, List}
 use Rattle.forensic_path.specs.declared.path.Decoder.TheVariants.{Utf16}
 use Rattle.sbuf_nest.specs.Around.{Around}

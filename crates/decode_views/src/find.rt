@@ -1,8 +1,10 @@
 // The search of a buffer for runs of pairs.
 //
-// Of eight pairs that begin at one of sixteen places one stands behind the last but one of them, or behind
-// the last: where none does, all sixteen are passed over at a look at three bytes. So in bytes with few
-// pairs it looks at one place of sixteen, and a run that began ahead is passed over once, whatever its length.
+// Of eight pairs that begin at one of sixteen places in a row, one stands at the last of these places or
+// at the one ahead of it. Where neither has a pair, all sixteen are passed over at a look at three bytes.
+// Elsewhere the pairs from a place on are counted, and passed over where no run begins there. So a byte
+// is read at most a few times, whatever the buffer holds: a run costs its counting, twice here and once
+// where it is judged.
 ghost use Rattle.std.specs.Prelude.{◌≡◌, ◌+◌, ◌<◌, ◌≤◌, ◌++◌, length, IsTrue, OnOk, OnErr};
 ghost use Rattle.sbuf_nest.specs.Marks.{owned_marks, NoneFrom, AppendsFirst};
 ghost use Rattle.decode_views.specs.Starts.{utf16_starts};
@@ -35,7 +37,7 @@ impl Search for PairSearch {
 
     ghost judge = { λ _. utf16_starts };
 
-    // The next place with enough pairs in a row, and none right ahead.
+    // The next place where a run may begin.
     fn next_places(&mut self, sb: &Sbuf, next: usize) -> Option<Places> {
         let at = next_run(sb.bytes, next, sb.own_to());
         if at == sb.own_to() {
@@ -77,7 +79,7 @@ fn next_run(bytes: &[u8], next: usize, to: usize) -> usize
         if pairs >= PAIRS_LEAST && !ends_in_pair(before) {
             return at;
         }
-        // The byte behind a pair begins none, and where one begins behind it the run goes on.
+        // A pair's zero byte begins none, and a pair stands right ahead of each place that is left.
         at += 2 * pairs + 1;
     }
     if at < to && bytes.len() - at == STRIDE {
@@ -86,8 +88,8 @@ fn next_run(bytes: &[u8], next: usize, to: usize) -> usize
     to
 }
 
-// No run of pairs begins at the sixteen places from `at` on, as three bytes tell. In most bytes two of
-// them do, which aren't 0.
+// No pair stands at `at + 14` or `at + 15`, one of which belongs to any eight pairs that begin at one of the
+// sixteen places from `at` on. Mostly the two bytes that would be zero bytes tell, and they come first.
 #[inline(always)]
 fn is_far(bytes: &[u8], at: usize) -> bool
     requires { at + STRIDE < length bytes.now }

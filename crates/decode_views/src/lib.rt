@@ -1,10 +1,10 @@
 //! Two other views of the bytes at a place: the text of a run of UTF-16 pairs, and the place with each
 //! byte XORed with a mask.
 //!
-//! The promise: `utf16_run` is the run at a place exactly as `specs/Utf16.antt` says, `utf16_value` decodes
-//! it, and `find_runs` appends exactly the starts of `specs/Starts.antt` of the places that the buffer owns.
-//! `xor_view` is the bytes as `specs/Xor.antt` shows them: a place of the view looks as that place of the
-//! bytes does, XORed. `proofs/Rows.antt` works examples of both.
+//! The promise: `utf16_run` is the run at a place exactly as `specs/Utf16.antt` says, `utf16_value` its
+//! value, and `find_runs` appends exactly the starts of `specs/Starts.antt` of the places that the buffer
+//! owns. `xor_view` is the bytes as `specs/Xor.antt` says; by `view_look` of `proofs/Masked.antt` each place
+//! of it looks as that place of the bytes does, XORed. `proofs/Rows.antt` works examples.
 #![tactic(auto)]
 
 mod find;

@@ -1,54 +1,50 @@
 use crate::{find_runs, utf16_run, utf16_value, xor_view};
 use byte_kit::NoMemory;
 use forensic_path::Decoder;
-use sbuf_nest::{Look, Sbuf, Start, Starts};
+use sbuf_nest::{Extent, Look, Sbuf, Start, Starts};
 use std::alloc::Global;
 use std::test::Fail;
 
 // Eight pairs.
 const EIGHT: &[u8] = b"e\0i\0g\0h\0t\0 \0p\0a\0";
 
-// What stands ahead of a place and from it on, and how many pairs its run has, if one begins there.
-type RunRow = (&'static [u8], &'static [u8], Option<u32>);
+// How many bytes a run covers, and how many pairs it has.
+type Run = (u32, u32);
+
+// What stands ahead of a place and from it on, and the run that begins there.
+type RunRow = (&'static [u8], &'static [u8], Option<Run>);
 
 const RUNS: [RunRow; 20] = [
     (b"", b"s\0e\0v\0e\0n\0 \0p\0", None),
     (b"", b"s\0e\0v\0e\0n\0 \0p\0a", None),
     (b"", b"s\0e\0v\0e\0n\0 \0p\0a\x01", None),
-    (b"", EIGHT, Some(8)),
-    (b"", b"e\0i\0g\0h\0t\0 \0p\0a\0\n\0x\0", Some(8)),
-    (b"", b"n\0i\0n\0e\0 \0p\0a\0i\0r\0", Some(9)),
-    (b"", b"n\0i\0n\0e\0 \0p\0a\0i\0r\0s", Some(9)),
-    (b"", b" \0~\0 \0~\0 \0~\0 \0~\0", Some(8)),
+    (b"", EIGHT, Some((16, 8))),
+    (b"", b"e\0i\0g\0h\0t\0 \0p\0a\0\n\0x\0", Some((16, 8))),
+    (b"", b"n\0i\0n\0e\0 \0p\0a\0i\0r\0", Some((18, 9))),
+    (b"", b"n\0i\0n\0e\0 \0p\0a\0i\0r\0s", Some((18, 9))),
+    (b"", b" \0~\0 \0~\0 \0~\0 \0~\0", Some((16, 8))),
     (b"", b"\x1f\0i\0g\0h\0t\0 \0p\0a\0i\0", None),
     (b"", b"e\0i\0g\0h\0t\0 \0p\0\x7f\0i\0", None),
     (b"", b"\0e\0i\0g\0h\0t\0 \0p\0a", None),
     (b"", b"", None),
     (b"x\0", EIGHT, None),
     (b"xx\0", EIGHT, None),
-    (b"\0", EIGHT, Some(8)),
-    (b"x", EIGHT, Some(8)),
-    (b"xx", EIGHT, Some(8)),
-    (b"\0x", EIGHT, Some(8)),
-    (b"\0\0", EIGHT, Some(8)),
-    (b"\n\0", EIGHT, Some(8)),
+    (b"\0", EIGHT, Some((16, 8))),
+    (b"x", EIGHT, Some((16, 8))),
+    (b"xx", EIGHT, Some((16, 8))),
+    (b"\0x", EIGHT, Some((16, 8))),
+    (b"\0\0", EIGHT, Some((16, 8))),
+    (b"\n\0", EIGHT, Some((16, 8))),
 ];
 
-// The run at a place has so many pairs, or none begins there.
-fn has_pairs(before: &[u8], after: &[u8], pairs: Option<u32>) -> bool {
-    match (utf16_run(&Look { before, after }), pairs) {
-        (Some(run), Some(units)) => run.units == units && run.bytes / 2 == units,
-        (run, pairs) => run.is_none() && pairs.is_none(),
-    }
+fn run_at(before: &[u8], after: &[u8]) -> Option<Run> {
+    utf16_run(&Look { before, after }).map(|run| (run.bytes, run.units))
 }
 
 #[test]
 fn a_run_has_at_least_8_pairs_and_none_right_ahead(rt: HostRuntime) {
-    for (before, after, pairs) in RUNS {
-        assert!(rt;
-            has_pairs(before, after, pairs),
-            "at {before:?} and {after:?}"
-        );
+    for (before, after, run) in RUNS {
+        assert_eq!(rt; run_at(before, after), run, "at {before:?} and {after:?}");
     }
 }
 
@@ -63,9 +59,13 @@ fn long(alloc: Global, ahead: &[u8], pairs: usize) -> Result<Vec<u8>, NoMemory> 
 
 #[test]
 fn at_most_4096_pairs_are_taken(rt: HostRuntime) -> Result<(), Fail> {
-    for (count, pairs) in [(4095, 4095), (4096, 4096), (4097, 4096)] {
-        let bytes = long(rt.alloc(), b"", count)?;
-        assert!(rt; has_pairs(b"", bytes.as_slice(), Some(pairs)), "of {count}");
+    for (pairs, run) in [
+        (4095, (8190, 4095)),
+        (4096, (8192, 4096)),
+        (4097, (8192, 4096)),
+    ] {
+        let bytes = long(rt.alloc(), b"", pairs)?;
+        assert_eq!(rt; run_at(b"", bytes.as_slice()), Some(run), "of {pairs}");
     }
     Ok(())
 }
@@ -95,11 +95,11 @@ fn the_value_has_the_first_byte_of_each_pair(rt: HostRuntime) -> Result<(), Fail
     Ok(())
 }
 
-// The runs of a buffer, whose places from `from` up to `to` are owned, begin at these places and have
-// so many pairs.
+// The runs of a buffer, whose places from `from` up to `to` are owned, begin at these places and are
+// so long.
 fn are_runs(
     sb: (&[u8], usize, usize),
-    want: &[(usize, u32)],
+    want: &[(usize, Run)],
     alloc: Global,
 ) -> Result<bool, NoMemory> {
     let (bytes, from, to) = sb;
@@ -118,48 +118,51 @@ fn are_runs(
     )
 }
 
-fn is_start(start: &Start, at: usize, pairs: u32) -> bool {
-    start.at == at
-        && start.by == Decoder::Utf16
-        && start.extent.units == pairs
-        && start.extent.bytes / 2 == pairs
+fn is_start(start: &Start, at: usize, run: Run) -> bool {
+    let (bytes, units) = run;
+    *start
+        == Start {
+            at,
+            by: Decoder::Utf16,
+            extent: Extent { bytes, units },
+        }
 }
 
-// A buffer, which of its places are owned, and the places and pairs of its runs.
-type FindRow = (&'static [u8], usize, usize, &'static [(usize, u32)]);
+// A buffer, which of its places are owned, and the places and lengths of its runs.
+type FindRow = (&'static [u8], usize, usize, &'static [(usize, Run)]);
 
 const BUFFERS: [FindRow; 18] = [
-    (EIGHT, 0, 16, &[(0, 8)]),
-    (EIGHT, 0, 1, &[(0, 8)]),
+    (EIGHT, 0, 16, &[(0, (16, 8))]),
+    (EIGHT, 0, 1, &[(0, (16, 8))]),
     (EIGHT, 0, 0, &[]),
     (EIGHT, 1, 16, &[]),
     (b"s\0e\0v\0e\0n\0 \0p\0", 0, 14, &[]),
-    (b"xe\0i\0g\0h\0t\0 \0p\0a\0", 0, 17, &[(1, 8)]),
-    (b"\0e\0i\0g\0h\0t\0 \0p\0a\0", 0, 17, &[(1, 8)]),
+    (b"xe\0i\0g\0h\0t\0 \0p\0a\0", 0, 17, &[(1, (16, 8))]),
+    (b"\0e\0i\0g\0h\0t\0 \0p\0a\0", 0, 17, &[(1, (16, 8))]),
     (b"\0e\0i\0g\0h\0t\0 \0p\0a", 0, 16, &[]),
     (b"\0e\0i\0g\0h\0t\0 \0p\0a\xff\0", 0, 18, &[]),
-    (b"x\0e\0i\0g\0h\0t\0 \0p\0a\0", 0, 18, &[(0, 9)]),
+    (b"x\0e\0i\0g\0h\0t\0 \0p\0a\0", 0, 18, &[(0, (18, 9))]),
     (b"x\0e\0i\0g\0h\0t\0 \0p\0a\0", 1, 18, &[]),
     (b"x\0e\0i\0g\0h\0t\0 \0p\0a\0", 2, 18, &[]),
-    (b"\n\0e\0i\0g\0h\0t\0 \0p\0a\0", 0, 18, &[(2, 8)]),
-    (b"\n\0e\0i\0g\0h\0t\0 \0p\0a\0", 2, 3, &[(2, 8)]),
+    (b"\n\0e\0i\0g\0h\0t\0 \0p\0a\0", 0, 18, &[(2, (16, 8))]),
+    (b"\n\0e\0i\0g\0h\0t\0 \0p\0a\0", 2, 3, &[(2, (16, 8))]),
     (
         b"h\0e\0r\0e\0 \0a\0r\0e\0\n\0t\0w\0o\0 \0r\0u\0n\0s\0 \0",
         0,
         36,
-        &[(0, 8), (18, 9)],
+        &[(0, (16, 8)), (18, (18, 9))],
     ),
     (
         b"h\0e\0r\0e\0 \0a\0r\0e\0!t\0w\0o\0 \0r\0u\0n\0s\0 \0",
         0,
         35,
-        &[(0, 8), (17, 9)],
+        &[(0, (16, 8)), (17, (18, 9))],
     ),
     (
         b"h\0e\0r\0e\0 \0a\0r\0e\0\0t\0w\0o\0 \0r\0u\0n\0s\0 \0",
         1,
         35,
-        &[(17, 9)],
+        &[(17, (18, 9))],
     ),
     (b"", 0, 0, &[]),
 ];
@@ -190,7 +193,7 @@ fn no_offset_hides_a_run(rt: HostRuntime) -> Result<(), Fail> {
         for other in [0, b'.', 255] {
             let bytes = spaced(rt.alloc(), at, other, 64)?;
             assert!(rt;
-                are_runs((bytes.as_slice(), 0, 64), &[(at, 8)], rt.alloc())?,
+                are_runs((bytes.as_slice(), 0, 64), &[(at, (16, 8))], rt.alloc())?,
                 "at {at} behind {other}"
             );
         }
@@ -199,12 +202,12 @@ fn no_offset_hides_a_run(rt: HostRuntime) -> Result<(), Fail> {
 }
 
 // What stands ahead of a long run, how many pairs it has, the first owned place, and the runs.
-type LongRow = (&'static [u8], usize, usize, &'static [(usize, u32)]);
+type LongRow = (&'static [u8], usize, usize, &'static [(usize, Run)]);
 
 const LONG: [LongRow; 6] = [
-    (b"", 4096, 0, &[(0, 4096)]),
-    (b"", 4097, 0, &[(0, 4096)]),
-    (b".", 10000, 0, &[(1, 4096)]),
+    (b"", 4096, 0, &[(0, (8192, 4096))]),
+    (b"", 4097, 0, &[(0, (8192, 4096))]),
+    (b".", 10000, 0, &[(1, (8192, 4096))]),
     (b"", 10000, 1, &[]),
     (b"", 10000, 2, &[]),
     (b"", 10000, 8192, &[]),
