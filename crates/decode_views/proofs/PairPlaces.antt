@@ -3,13 +3,13 @@ use Rattle.std.proofs.Common.{◌≡◌, ◌∙◌, ℕ, ◌+◌, ◌-◌, ◌*�
 use Rattle.std.specs.Prelude.{nat_le}
 use Rattle.std.proofs.lemmas.Bool.{cases_lt, false≢true}
 use Rattle.std.proofs.lemmas.Bool.Decides.{nat_tests}
-use Rattle.std.proofs.lemmas.List.{get_or-drop, get_or-take, length-take, drop-drop}
+use Rattle.std.proofs.lemmas.List.{get_or-take, length-take, drop-drop}
 use Rattle.sbuf_nest.specs.Around.{look_at}
 use Rattle.sbuf_nest.specs.Marks.{NoneFrom}
 use Rattle.sbuf_nest.specs.declared.look.TheConstants.{LOOK_BEFORE, LOOK_AFTER}
 use Rattle.decode_views.specs.Utf16.{is_pair, pairs_in, last_pairs, begins_pairs, utf16_run, utf16_extent}
 use Rattle.decode_views.specs.Starts.{utf16_starts}
-use Rattle.decode_views.proofs.Pairs.{front_pair, and_false, second_begins_none, pairs_within, pairs_in-take, pair_at, none_at}
+use Rattle.decode_views.proofs.Pairs.{one_at, and_false, second_begins_none, pairs_within, pairs_in-take, pair_at, none_at}
 
 too_few : (pairs : ℕ) → pairs < 8 → nat_le 8 pairs ≡ false
 too_few pairs few = grind (arith, nat_tests)
@@ -48,13 +48,9 @@ module _ (bytes : List ℕ) where
       let ahead = take (place + 2) bytes in
       let taken = length-take (place + 2) bytes in
       let e : length ahead - 2 ≡ place = omega (arith, taken) in
-      let a : place + 0 ≡ place = omega arith in
-      let long = length-drop place ahead in
-      let first : get_or (drop place ahead) 0 0 ≡ get_or bytes place 0 =
-      get_or-drop place ahead 0 0 ∙ ap (λ k. get_or ahead k 0) a ∙ get_or-take (place + 2) bytes place 0 (omega arith) in
-      let second : get_or (drop place ahead) 1 0 ≡ get_or bytes (place + 1) 0 =
-      get_or-drop place ahead 1 0 ∙ get_or-take (place + 2) bytes (place + 1) 0 (omega arith) in
-      let one = front_pair (drop place ahead) (omega (arith, long, taken)) (rw (first, second) is) in
+      let first : get_or ahead place 0 ≡ get_or bytes place 0 = get_or-take (place + 2) bytes place 0 (omega arith) in
+      let second : get_or ahead (place + 1) 0 ≡ get_or bytes (place + 1) 0 = get_or-take (place + 2) bytes (place + 1) 0 (omega arith) in
+      let one = one_at ahead place (omega (arith, taken)) (rw (first, second) is) in
       ap (λ k. pairs_in (drop k ahead) == 0) e ∙ grind (arith, nat_tests, one)
 
   -- ---- places passed over
@@ -68,11 +64,9 @@ module _ (bytes : List ℕ) where
         | inl few ↦ few
         | inr eight ↦ (
             let pair = (at + 15 - place) / 2 in
-            let e : at + 14 + 1 ≡ at + 15 = omega arith in
-            let f : at + 15 + 1 ≡ at + 16 = omega arith in
             elim (cases_lt (place + 2 * pair) (at + 15)) [
-              | inl even ↦ absurd (false≢true (sym first ∙ ap (λ k. is_pair (get_or bytes (at + 14) 0) (get_or bytes k 0)) (sym e) ∙ pair_at bytes place pair (at + 14) (omega (arith, eight, low, high)) (omega (arith, even, low, high))))
-              | inr odd ↦ absurd (false≢true (sym second ∙ ap (λ k. is_pair (get_or bytes (at + 15) 0) (get_or bytes k 0)) (sym f) ∙ pair_at bytes place pair (at + 15) (omega (arith, eight, low, high)) (omega (arith, odd, low, high))))
+              | inl even ↦ absurd (false≢true (sym first ∙ pair_at bytes place pair (at + 14) (at + 15) (omega (arith, eight, low, high)) (omega (arith, even, low, high)) (omega arith)))
+              | inr odd ↦ absurd (false≢true (sym second ∙ pair_at bytes place pair (at + 15) (at + 16) (omega (arith, eight, low, high)) (omega (arith, odd, low, high)) (omega arith)))
             ]
             )
       ]
@@ -85,7 +79,7 @@ module _ (bytes : List ℕ) where
       let pair = (place - at - 1) / 2 in
       elim (cases_lt at place) [
         | inl behind ↦ (
-            let here = pair_at bytes at pair (at + 2 * pair) (omega (arith, some, low, high, behind)) refl in
+            let here = pair_at bytes at pair (at + 2 * pair) (at + 2 * pair + 1) (omega (arith, some, low, high, behind)) refl refl in
             elim (cases_lt (at + 2 * pair + 1) place) [
               | inl even ↦ (
                   let e : at + 2 * pair + 2 ≡ place = omega (arith, even, behind) in

@@ -33,19 +33,19 @@ second_begins_none byte second third is =
 -- ---- how many pairs stand in front
 
 -- the first two bytes tell whether there is one more than behind them, or none
-pub front_pair : (bytes : List ℕ) → 1 < length bytes → is_pair (get_or bytes 0 0) (get_or bytes 1 0) ≡ true
+front_pair : (bytes : List ℕ) → 1 < length bytes → is_pair (get_or bytes 0 0) (get_or bytes 1 0) ≡ true
     → pairs_in bytes ≡ 1 + pairs_in (drop 2 bytes)
 front_pair [] long is = absurd (omega (arith, long))
 front_pair (byte ∷ []) long is = absurd (omega (arith, long))
 front_pair (byte ∷ zero_byte ∷ bytes) long is = rw is refl
 
-pub front_none : (bytes : List ℕ) → is_pair (get_or bytes 0 0) (get_or bytes 1 0) ≡ false → pairs_in bytes ≡ 0
+front_none : (bytes : List ℕ) → is_pair (get_or bytes 0 0) (get_or bytes 1 0) ≡ false → pairs_in bytes ≡ 0
 front_none [] is = refl
 front_none (byte ∷ []) is = refl
 front_none (byte ∷ zero_byte ∷ bytes) is = rw is refl
 
 -- each of the pairs in front is one
-pub each_pair : (bytes : List ℕ) (pair : ℕ) → pair < pairs_in bytes → is_pair (get_or bytes (2 * pair) 0) (get_or bytes (2 * pair + 1) 0) ≡ true
+each_pair : (bytes : List ℕ) (pair : ℕ) → pair < pairs_in bytes → is_pair (get_or bytes (2 * pair) 0) (get_or bytes (2 * pair + 1) 0) ≡ true
 each_pair [] pair within = absurd (omega (arith, within))
 each_pair (byte ∷ []) pair within = absurd (omega (arith, within))
 each_pair (byte ∷ zero_byte ∷ bytes) zero within =
@@ -97,12 +97,13 @@ module _ (bytes : List ℕ) (at : ℕ) where
   none_at is = front_none (drop at bytes) (rw (first_at, second_at) is)
 
   -- a pair stands at each second place from the place on, as far as they go
-  pub pair_at : (pair place : ℕ) → pair < pairs_in (drop at bytes) → place ≡ at + 2 * pair → is_pair (get_or bytes place 0) (get_or bytes (place + 1) 0) ≡ true
-  pair_at pair place within is =
-      let e : at + (2 * pair + 1) ≡ place + 1 = omega (arith, is) in
+  pub pair_at : (pair place behind : ℕ) → pair < pairs_in (drop at bytes) → place ≡ at + 2 * pair → behind ≡ place + 1
+      → is_pair (get_or bytes place 0) (get_or bytes behind 0) ≡ true
+  pair_at pair place behind within is next =
+      let e : at + (2 * pair + 1) ≡ behind = omega (arith, is, next) in
       let first : get_or (drop at bytes) (2 * pair) 0 ≡ get_or bytes place 0 = get_or-drop at bytes (2 * pair) 0 ∙ ap (λ k. get_or bytes k 0) (sym is) in
-      let second : get_or (drop at bytes) (2 * pair + 1) 0 ≡ get_or bytes (place + 1) 0 = get_or-drop at bytes (2 * pair + 1) 0 ∙ ap (λ k. get_or bytes k 0) e in
-      sym (ap (λ k. is_pair k (get_or (drop at bytes) (2 * pair + 1) 0)) first ∙ ap (is_pair (get_or bytes place 0)) second) ∙ each_pair (drop at bytes) pair within
+      let second : get_or (drop at bytes) (2 * pair + 1) 0 ≡ get_or bytes behind 0 = get_or-drop at bytes (2 * pair + 1) 0 ∙ ap (λ k. get_or bytes k 0) e in
+      sym (ap (λ byte. is_pair byte (get_or (drop at bytes) (2 * pair + 1) 0)) first ∙ ap (is_pair (get_or bytes place 0)) second) ∙ each_pair (drop at bytes) pair within
 
 -- ---- what an extent says that was given for a place
 
