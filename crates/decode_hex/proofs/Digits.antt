@@ -16,7 +16,7 @@ use Rattle.sbuf_nest.specs.declared.mark.Extent.{Extent}
 use Rattle.sbuf_nest.proofs.ClassRuns.{prefix_len-take}
 use Rattle.hex.specs.Hex.{hex_digit_value, pair_value, decode_pairs, decode_sized}
 use Rattle.hex.proofs.Pairs.{cons_byte, decode_pairs-ok_pair}
-use Rattle.decode_hex.specs.Hex.{paired, hex_extent, hex_run, hex_value, digit_number, IsRun}
+use Rattle.decode_hex.specs.Hex.{paired, hex_extent, hex_run, hex_value, digit_number, IsText}
 use Rattle.decode_hex.specs.Starts.{hex_starts}
 use Rattle.decode_hex.specs.declared.TheConstants.{DIGITS_LEAST, DIGITS_MOST}
 
@@ -56,21 +56,21 @@ module _ (after : List ℕ) (extent : Extent) where
   given_bytes true count is = sym (ap (λ (o : Option Extent). option_map_or (λ (e : Extent). e.bytes) o 0) is)
   given_bytes false count is = absurd (cc is)
 
-  pub IsRun-bytes : IsRun after extent → extent.bytes ≡ paired (min (prefix_len hex_class after) DIGITS_MOST)
+  pub IsText-bytes : IsText after extent → extent.bytes ≡ paired (min (prefix_len hex_class after) DIGITS_MOST)
   unfolding hex_run hex_extent
-  IsRun-bytes given = given_bytes _ _ given.1
+  IsText-bytes given = given_bytes _ _ given.1
 
-  pub IsRun-within : IsRun after extent → extent.bytes ≤ length after
-  IsRun-within given = omega (arith, IsRun-bytes given, prefix_len-le-length hex_class after)
+  pub IsText-within : IsText after extent → extent.bytes ≤ length after
+  IsText-within given = omega (arith, IsText-bytes given, prefix_len-le-length hex_class after)
 
-  pub IsRun-digits : IsRun after extent → AllPass hex_class (take extent.bytes after)
-  IsRun-digits given = λ k d within.
+  pub IsText-digits : IsText after extent → AllPass hex_class (take extent.bytes after)
+  IsText-digits given = λ k d within.
       let short = length-take extent.bytes after in
-      let bytes = IsRun-bytes given in
+      let bytes = IsText-bytes given in
       ap hex_class (get_or-take extent.bytes after k d (omega (arith, within, short))) ∙ prefix_len_passes hex_class after k d (omega (arith, within, short, bytes))
 
-  pub IsRun-even : IsRun after extent → extent.bytes % 2 ≡ 0
-  IsRun-even given = omega (arith, IsRun-bytes given)
+  pub IsText-even : IsText after extent → extent.bytes % 2 ≡ 0
+  IsText-even given = omega (arith, IsText-bytes given)
 
 -- ---- what digits say
 

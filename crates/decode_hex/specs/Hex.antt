@@ -23,8 +23,8 @@ unfoldable pub hex_run : Around → Option Extent
 hex_run look = option_map (λ count. record { bytes = count; units = count }) (hex_extent look)
 
 -- a run of this extent stands at some place from which on these are the bytes
-abbrev pub IsRun : List ℕ → Extent → Type 0
-IsRun after extent = (before : List ℕ) × (hex_run (record { before = before; after = after }) ≡ Some extent)
+abbrev pub IsText : List ℕ → Extent → Type 0
+IsText after extent = (before : List ℕ) × (hex_run (record { before = before; after = after }) ≡ Some extent)
 
 -- the sixteen digits, each at the place that is its number
 abbrev pub digits : List ℕ

@@ -2,7 +2,7 @@
 ghost use Rattle.std.specs.Prelude.{◌≡◌, ◌*◌, ◌%◌, ◌/◌, [], length, take, OnOk, OnErr};
 ghost use Rattle.std.specs.List.{AllPass};
 ghost use Rattle.byte_kit.specs.Classes.{hex_class};
-ghost use Rattle.decode_hex.specs.Hex.{hex_value, IsRun};
+ghost use Rattle.decode_hex.specs.Hex.{hex_value, IsText};
 
 use byte_kit::NoMemory;
 use sbuf_nest::Extent;
@@ -11,7 +11,7 @@ use sbuf_nest::Extent;
 /// what `into` held. It asks for an extent that [`hex_run`](crate::hex_run) gave at a place from which on
 /// these are the bytes. Its one refusal is want of memory, which leaves `into` empty.
 pub fn hex_value(after: &[u8], extent: Extent, into: &mut Vec<u8>) -> Result<(), NoMemory>
-    requires given { IsRun after.now extent }
+    requires given { IsText after.now extent }
     ensures value { OnOk result (into.new.items ≡ hex_value (take extent.bytes after.now)) }
     ensures refused { OnErr result (into.new.items ≡ []) }
 {
