@@ -20,3 +20,6 @@ pub const LINE_LEAST: usize = 32;
 
 /// How many letters of a text are taken at most.
 pub const LETTERS_MOST: usize = 65536;
+
+#[cfg(test)]
+mod tests;
