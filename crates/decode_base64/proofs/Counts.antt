@@ -19,7 +19,7 @@ take_none : (m : ℕ) → ◌≡◌ {A = List ℕ} [] (take m [])
 take_none zero = refl
 take_none (suc m) = refl
 
-take_plus : (n m : ℕ) (xs : List ℕ) → take (n + m) xs ≡ take n xs ++ take m (drop n xs)
+pub take_plus : (n m : ℕ) (xs : List ℕ) → take (n + m) xs ≡ take n xs ++ take m (drop n xs)
 take_plus zero m xs =
     let e : 0 + m ≡ m = omega arith in
     rw e refl

@@ -1,44 +1,38 @@
--- Letters that are gathered at the front of a room.
-use Rattle.std.proofs.Common.{◌≡◌, ◌∙◌, ℕ, ◌+◌, ◌-◌, ◌<◌, ◌≤◌, Bool, true, false, cond, List, [], ◌∷◌, ◌++◌, length, take, drop, get_or, set, filter, refl, sym, ap, arith}
-use Rattle.std.proofs.lemmas.List.{set-append_right, drop_more, append_assoc, append-nil, length-append}
-use Rattle.std.proofs.lemmas.List.Elements.{filter_more}
+-- Letters that are gathered at the front of a room, run by run.
+use Rattle.std.proofs.Common.{◌≡◌, ◌∙◌, ℕ, suc, ◌+◌, ◌≤◌, Bool, cond, List, ◌++◌, length, take, drop, filter, sym, ap, arith}
+use Rattle.std.specs.List.{prefix_len}
+use Rattle.std.proofs.lemmas.List.{append_assoc, length-append, take_at, drop_at, drop-drop}
+use Rattle.std.proofs.lemmas.List.Elements.{filter-append}
 use Rattle.std.proofs.lemmas.List.Sums.{length-filter, sum_by-take-le}
+use Rattle.decode_base64.proofs.Counts.{take_plus}
+use Rattle.decode_base64.proofs.Strangers.{run_kept}
 
 module _ (p : ℕ → Bool) (xs : List ℕ) where
   -- no more than in all
-  pub some_of_all : (n : ℕ) → length (filter p (take n xs)) ≤ length (filter p xs)
+  some_of_all : (n : ℕ) → length (filter p (take n xs)) ≤ length (filter p xs)
   some_of_all n = omega (arith, length-filter p (take n xs), length-filter p xs, sum_by-take-le (λ x. cond (p x) 1 0) xs n)
 
-  module _ (i x : ℕ) (within : i < length xs) (at : x ≡ get_or xs i 0) where
-    pub one_kept : p x ≡ true → filter p (take (i + 1) xs) ≡ filter p (take i xs) ++ x ∷ []
-    one_kept passes =
-        filter_more p xs i 0 within
-        ∙ ap (λ y. filter p (take i xs) ++ cond (p y) (y ∷ []) []) (sym at)
-        ∙ rw passes refl
+  module _ (at : ℕ) (rest line : List ℕ) (n : ℕ) (behind : rest ≡ drop at xs) (run : n ≡ prefix_len p rest) (front : line ≡ take n rest) where
+    -- the run behind what was passed, and the byte behind the run
+    pub line_kept : filter p (take (at + (n + 1)) xs) ≡ filter p (take at xs) ++ line
+    line_kept =
+        let e : n + 1 ≡ suc n = omega arith in
+        ap (filter p) (take_plus at (n + 1) xs)
+        ∙ filter-append p (take at xs) (take (n + 1) (drop at xs))
+        ∙ ap (λ ys. filter p (take at xs) ++ filter p (take (n + 1) ys)) (sym behind)
+        ∙ ap (λ m. filter p (take at xs) ++ filter p (take m rest)) (e ∙ ap (λ m. suc m) run)
+        ∙ ap (λ ys. filter p (take at xs) ++ ys) (run_kept p rest ∙ ap (λ m. take m rest) (sym run) ∙ sym front)
 
-    pub one_left : p x ≡ false → filter p (take (i + 1) xs) ≡ filter p (take i xs)
-    one_left fails =
-        filter_more p xs i 0 within
-        ∙ ap (λ y. filter p (take i xs) ++ cond (p y) (y ∷ []) []) (sym at)
-        ∙ rw fails (append-nil (filter p (take i xs)))
+    -- all that is kept has room where all letters have
+    pub line_fits : length (filter p (take at xs)) + length line ≤ length (filter p xs)
+    line_fits = omega (arith, ap length line_kept, length-append (filter p (take at xs)) line, some_of_all (at + (n + 1)))
 
-  -- there is room for one more
-  pub room_left : (i x : ℕ) → i < length xs → x ≡ get_or xs i 0 → p x ≡ true → length (filter p (take i xs)) < length (filter p xs)
-  room_left i x within at passes =
-      omega (arith, ap length (one_kept i x within at passes), length-append (filter p (take i xs)) (x ∷ []), some_of_all (i + 1))
-
--- one more byte in the front of a room
-pub put_behind : (front old : List ℕ) (n x : ℕ) → n ≡ length front → n < length old → set (front ++ drop n old) n x ≡ (front ++ x ∷ []) ++ drop (n + 1) old
-put_behind front old n x long within =
-    let e : n - n ≡ 0 = omega arith in
-    set-append_right front (drop n old) n n x (sym long) (omega arith)
-    ∙ ap (λ ys. front ++ ys) (rw (e, drop_more old n 0 within) refl)
-    ∙ sym (append_assoc front (x ∷ []) (drop (n + 1) old))
-
--- one more letter in front of what the room had
-pub one_gathered : (p : ℕ → Bool) (xs old room new : List ℕ) (i x n : ℕ) → i < length xs → x ≡ get_or xs i 0 → p x ≡ true
-    → n ≡ length (filter p (take i xs)) → room ≡ filter p (take i xs) ++ drop n old → n < length old → new ≡ set room n x
-    → new ≡ filter p (take (i + 1) xs) ++ drop (n + 1) old
-one_gathered p xs old room new i x n within at passes count is left more =
-    more ∙ ap (λ front. set front n x) is ∙ put_behind (filter p (take i xs)) old n x count left
-    ∙ ap (λ front. front ++ drop (n + 1) old) (sym (one_kept p xs i x within at passes))
+-- a line put behind what stands in front
+pub line_behind : (front old room line : List ℕ) (n k : ℕ) → n ≡ length front → room ≡ front ++ drop n old →
+    take n room ++ (line ++ drop k (drop n room)) ≡ (front ++ line) ++ drop (n + k) old
+line_behind front old room line n k long is =
+    let ahead = ap (take n) is ∙ take_at front (drop n old) n (sym long) in
+    let behind = ap (λ ys. drop k (drop n ys)) is ∙ ap (drop k) (drop_at front (drop n old) n (sym long)) ∙ drop-drop k n old in
+    ap (λ ys. ys ++ (line ++ drop k (drop n room))) ahead
+    ∙ ap (λ ys. front ++ (line ++ ys)) behind
+    ∙ sym (append_assoc front line (drop (n + k) old))

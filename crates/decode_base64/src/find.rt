@@ -3,13 +3,16 @@
 // It judges the places where as many letters stand in a row as the first line of a text has. A run is
 // judged once, at its first place, and most lines of mail are turned down by the line ahead of them, before
 // they are measured. The texts of two places don't overlap, so each byte is measured about twice.
-ghost use Rattle.std.specs.Prelude.{◌≡◌, ◌++◌, OnOk, OnErr};
+ghost use Rattle.std.specs.Prelude.{◌≡◌, ◌≤◌, ◌++◌, length, OnOk, OnErr};
+ghost use Rattle.byte_kit.specs.Classes.{base64_class};
 ghost use Rattle.sbuf_nest.specs.Marks.{owned_marks, AppendsFirst};
+ghost use Rattle.sbuf_nest.specs.Runs.{NoRowFrom};
 ghost use Rattle.decode_base64.specs.Starts.{base64_starts};
+ghost use Rattle.decode_base64.specs.declared.TheConstants.{LINE_LEAST};
 
-use crate::letters::Letters;
+use crate::letters::{Letters, letters_len};
 use crate::{LINE_LEAST, b64_text};
-use byte_kit::NoMemory;
+use byte_kit::{NoMemory, is_base64};
 use forensic_path::Decoder;
 use sbuf_nest::{Look, Places, Sbuf, Search, Start, Starts, find_marks, next_row};
 
@@ -34,7 +37,8 @@ impl Search for TextSearch {
 
     // The next place where enough letters stand in a row, behind the run that `next` may stand in.
     fn next_places(&mut self, sb: &Sbuf, next: usize) -> Option<Places> {
-        let at = next_row::<Letters>(sb.bytes, next, sb.own_to(), LINE_LEAST);
+        let from = past_run(sb.bytes, next, sb.own_to());
+        let at = next_row::<Letters>(sb.bytes, from, sb.own_to(), LINE_LEAST);
         if at == sb.own_to() {
             return None;
         }
@@ -52,4 +56,21 @@ impl Search for TextSearch {
     ) -> Result<(), NoMemory> {
         starts.add_text(place, Decoder::Base64, b64_text(look))
     }
+}
+
+// The end of the run of letters that `next` stands in, or `next` where none began ahead of it. `next_row`
+// would look at each letter.
+fn past_run(bytes: &[u8], next: usize, to: usize) -> usize
+    requires ordered { next ≤ to }
+    requires within { to ≤ length bytes.now }
+    ensures low { next ≤ result }
+    ensures high { result ≤ to }
+    ensures none { NoRowFrom base64_class LINE_LEAST bytes.now next result }
+{
+    if next == 0 || !is_base64(bytes[next - 1]) {
+        return next;
+    }
+    let (seen, _) = bytes.split_at(to);
+    let (_, rest) = seen.split_at(next);
+    next + letters_len(rest)
 }

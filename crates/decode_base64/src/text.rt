@@ -8,9 +8,9 @@ ghost use Rattle.decode_base64.specs.Base64.{line_breaks, ends_line, text_extent
 ghost use Rattle.decode_base64.specs.Text.{base64_text, IsNextLine};
 ghost use Rattle.decode_base64.specs.declared.TheConstants.{LINE_LEAST, LETTERS_MOST};
 
-use crate::letters::Letters;
+use crate::letters::{Letters, letters_len};
 use crate::{LETTERS_MOST, LINE_LEAST};
-use sbuf_nest::{Extent, Look, begins_run, run_len};
+use sbuf_nest::{Extent, Look, begins_run};
 
 /// The Base64 text that begins at the place: its bytes, line breaks included, and its letters. The first
 /// line is a run of at least `LINE_LEAST` letters, ahead of which neither a letter stands nor a line break
@@ -45,7 +45,7 @@ fn ends_line(bytes: &[u8], line_break: &[u8]) -> bool
     }
     let (line, _) = bytes.split_at(bytes.len() - line_break.len());
     let (_, last) = line.split_at(line.len().saturating_sub(LINE_LEAST));
-    run_len::<Letters>(last) == LINE_LEAST
+    letters_len(last) == LINE_LEAST
 }
 
 // The text at the front, of whose first line so many letters are taken.
@@ -122,5 +122,5 @@ fn letters_up_to(bytes: &[u8], most: usize) -> usize
     ensures within { result ≤ length bytes.now }
 {
     let (front, _) = bytes.split_at(most.min(bytes.len()));
-    run_len::<Letters>(front)
+    letters_len(front)
 }

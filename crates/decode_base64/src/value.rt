@@ -8,8 +8,9 @@ ghost use Rattle.byte_kit.specs.Classes.{base64_class};
 ghost use Rattle.decode_base64.specs.Base64.{base64_value, bytes_of, six_bits};
 ghost use Rattle.decode_base64.specs.Text.{letter_count, IsText};
 
+use crate::letters::letters_len;
 use base64::engine::general_purpose::STANDARD;
-use byte_kit::{NoMemory, is_base64};
+use byte_kit::NoMemory;
 use sbuf_nest::Extent;
 
 // The letter that is 0.
@@ -52,12 +53,15 @@ fn gather_letters(text: &[u8], room: &mut [u8])
     requires { letter_count text.now ≤ length room.old }
     ensures { room.new ≡ filter base64_class text.now ++ drop (letter_count text.now) room.old }
 {
+    let mut at = 0;
     let mut count = 0;
-    for byte in text {
-        if is_base64(*byte) {
-            room[count] = *byte;
-            count += 1;
-        }
+    while at < text.len() {
+        let (_, rest) = text.split_at(at);
+        let (line, _) = rest.split_at(letters_len(rest));
+        room[count..count + line.len()].copy_from_slice(line);
+        count += line.len();
+        // Behind a line stands a byte of a line break, or the end.
+        at += line.len() + 1;
     }
 }
 

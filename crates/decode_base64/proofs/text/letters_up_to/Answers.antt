@@ -8,5 +8,5 @@ use Rattle.decode_base64.proofs.text.letters_up_to.Goals as goal
 pub returns-clause-letters : goal.returns-clause-letters
 returns-clause-letters c =
     let bytes = c.args.bytes.now in
-    let run = c.run_len.ensures.run ∙ ap (prefix_len base64_class) c.split_at.ensures.front ∙ prefix_len-take base64_class c.min.result bytes in
+    let run = c.letters_len.ensures.run ∙ ap (prefix_len base64_class) c.split_at.ensures.front ∙ prefix_len-take base64_class c.min.result bytes in
     omega (arith, run, c.min.ensures, prefix_len-le-length base64_class bytes)
