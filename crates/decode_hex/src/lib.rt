@@ -19,3 +19,5 @@ pub const DIGITS_LEAST: usize = 32;
 /// How many digits of a run are taken at most, an even number.
 pub const DIGITS_MOST: usize = 16384;
 
+#[cfg(test)]
+mod tests;

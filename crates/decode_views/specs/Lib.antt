@@ -1,2 +1,3 @@
+pub mod Starts
 pub mod Utf16
 pub mod Xor

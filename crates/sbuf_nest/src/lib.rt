@@ -1,13 +1,20 @@
-//! Buffers and what is found in them. A place of a buffer is judged by its `Look`, the bytes just
-//! ahead of it and those from it on: two places whose Looks are equal hold the same features,
-//! wherever they stand. An `Sbuf` lends the Looks of its places, and knows which of them it owns. A
-//! `Search` says which marks a place has, and which places have to be judged for them; `find_marks`
-//! appends the marks of the owned places to a `Found`.
+//! Buffers, what is found in them, and the way into buffers that are nested. A place of a buffer is
+//! judged by its `Look`, the bytes just ahead of it and those from it on: two places whose Looks are
+//! equal hold the same features, wherever they stand. An `Sbuf` lends the Looks of its places, and knows
+//! which of them it owns.
+//!
+//! A `Search` says what a place has, and which places have to be judged for it: a `Mark` of a feature,
+//! or the `Start` of an encoded text. `find_marks` appends what the owned places have to a `Found` or to
+//! `Starts`. Where texts are runs of a class of bytes, `ByteClass` names the class, `begins_run` and
+//! `run_len` say where a run begins and how long it is, and `next_row` passes over the places at which
+//! none begins. A `Trail` keeps the turns from the image into the buffer that is searched, and makes
+//! the paths of its places.
 //!
 //! The promise: a Look, and a part, is the buffer's own bytes, and none is a copy. A search appends
-//! exactly the marks of the owned places, in order, whatever it passes over. `specs/Around.antt` says
-//! what the Look of a place is, `specs/Marks.antt` what a search appends, and `specs/Turns.antt` how
-//! the places of nested buffers make a path.
+//! exactly what the owned places have, in order, whatever it passes over. `specs/Around.antt` says what
+//! the Look of a place is, `specs/Marks.antt` what a search appends, `specs/Edges.antt` and
+//! `specs/Runs.antt` where runs begin, and `specs/Turns.antt` how the places of nested buffers make a
+//! path.
 #![tactic(auto)]
 
 mod found;
@@ -26,5 +33,7 @@ pub use sbuf::Sbuf;
 pub use search::{Places, Search, find_marks};
 pub use trail::{Trail, Turn};
 
+#[cfg(test)]
+mod nesting_tests;
 #[cfg(test)]
 mod tests;

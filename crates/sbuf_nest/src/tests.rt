@@ -3,9 +3,12 @@ ghost use Rattle.std.specs.Option.{option_map_or};
 ghost use Rattle.forensic_path.specs.declared.feature.Kind.TheVariants.{Find};
 ghost use Rattle.sbuf_nest.specs.Marks.{marked};
 
-use crate::{Found, LOOK_AFTER, Look, Mark, Places, Sbuf, Search, find_marks};
+use crate::{
+    ByteClass, Extent, Found, LOOK_AFTER, Look, Mark, Places, Sbuf, Search, Start, Starts,
+    begins_run, find_marks, next_row, run_len,
+};
 use byte_kit::NoMemory;
-use forensic_path::Kind;
+use forensic_path::{Decoder, Kind};
 use std::alloc::Global;
 use std::test::Fail;
 
@@ -249,4 +252,112 @@ fn a_search_marks_the_owned_places_and_judges_few(rt: HostRuntime) -> Result<(),
         assert!(rt; finds(rt.alloc(), row)?, "at {} to {}", row.1, row.2);
     }
     Ok(())
+}
+
+const TEXT: Start = Start {
+    at: 7,
+    by: Decoder::Base64,
+    extent: Extent {
+        bytes: 65,
+        units: 64,
+    },
+};
+
+const RUN: Start = Start {
+    at: 2,
+    by: Decoder::Utf16,
+    extent: Extent {
+        bytes: 16,
+        units: 8,
+    },
+};
+
+// Appends both texts, and nothing for the place between them where none begins.
+fn add_texts(starts: &mut Starts) -> Result<(), NoMemory> {
+    starts.add_text(7, Decoder::Base64, Some(TEXT.extent))?;
+    starts.add_text(3, Decoder::Hex, None)?;
+    starts.add_text(2, Decoder::Utf16, Some(RUN.extent))
+}
+
+#[test]
+fn a_start_is_added_where_a_text_begins(rt: HostRuntime) -> Result<(), Fail> {
+    let mut starts = Starts::make(rt.alloc());
+    add_texts(&mut starts)?;
+    assert!(rt; starts.items() == [TEXT, RUN].as_slice());
+    starts.clear();
+    assert!(rt; starts.items().is_empty());
+    Ok(())
+}
+
+// The class of one byte.
+struct Star;
+
+impl ByteClass for Star {
+    ghost holds = { λ byte. byte == 42 };
+
+    fn has(byte: u8) -> bool {
+        byte == b'*'
+    }
+}
+
+// What stands ahead of a place, and whether a run of stars may begin there.
+const EDGES: [(&[u8], bool); 5] = [
+    (b"", true),
+    (b".", true),
+    (b"*", false),
+    (b".*", false),
+    (b"*.", true),
+];
+
+// Bytes, and how many stars stand in front.
+const RUNS: [(&[u8], usize); 5] = [(b"", 0), (b".*", 0), (b"*", 1), (b"**.*", 2), (b"***", 3)];
+
+#[test]
+fn a_run_begins_behind_another_byte_and_goes_up_to_one(rt: HostRuntime) {
+    for (before, begins) in EDGES {
+        let after: &[u8] = b"*";
+        assert_eq!(rt;
+            begins_run::<Star>(&Look { before, after }),
+            begins,
+            "behind {before:?}"
+        );
+    }
+    for (bytes, stars) in RUNS {
+        assert_eq!(rt; run_len::<Star>(bytes), stars, "in {bytes:?}");
+    }
+}
+
+const STARS: &[u8] = b"..***.****";
+
+// Bytes, the places that are searched, how many stars a row has, and where the first row is.
+type RowsRow = (&'static [u8], usize, usize, usize, usize);
+
+const ROWS: [RowsRow; 12] = [
+    (STARS, 0, 10, 1, 2),
+    (STARS, 0, 10, 3, 2),
+    (STARS, 2, 10, 3, 2),
+    (STARS, 3, 10, 3, 6),
+    (STARS, 0, 10, 4, 6),
+    (STARS, 0, 10, 5, 10),
+    (STARS, 0, 3, 3, 2),
+    (STARS, 0, 2, 3, 2),
+    (STARS, 7, 10, 3, 10),
+    (STARS, 0, 0, 1, 0),
+    (STARS, 10, 10, 1, 10),
+    (b"", 0, 0, 1, 0),
+];
+
+fn is_row(row: RowsRow) -> bool {
+    let (bytes, next, to, least, at) = row;
+    if next > to || to > bytes.len() || least == 0 || least > LOOK_AFTER {
+        return false;
+    }
+    next_row::<Star>(bytes, next, to, least) == at
+}
+
+#[test]
+fn a_row_is_found_where_its_run_begins(rt: HostRuntime) {
+    for row in ROWS {
+        assert!(rt; is_row(row), "from {} to {} of {}", row.1, row.2, row.3);
+    }
 }

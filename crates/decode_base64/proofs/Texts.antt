@@ -1,0 +1,127 @@
+-- Where a text begins, and what is known of one.
+use Rattle.std.proofs.Common.{drop, get_or, ◌+◌, ◌-◌, ◌<◌, inl, inr, length-drop, ◌≡◌, ◌∙◌, ℕ, ◌≤◌, ◌&&◌, not, nat_le, Bool, true, false, List, length, take, refl, sym, ap, arith, ◌⊎◌, Some, None}
+use Rattle.std.specs.Prelude.{option_map, if◌then◌else◌}
+use Rattle.std.specs.List.{prefix_len, list_any}
+use Rattle.std.specs.Prelude.{slice_index}
+use Rattle.std.proofs.lemmas.Bool.{cases_lt}
+use Rattle.std.proofs.lemmas.Bool.Decides.{nat_tests}
+use Rattle.std.proofs.lemmas.List.{get_or-drop, get_or-take, length-take}
+use Rattle.std.proofs.lemmas.List.Sums.{prefix_len_passes, prefix_len-le-length}
+use Rattle.sbuf_nest.proofs.ClassRuns.{none_inside as row_inside}
+use Rattle.byte_kit.specs.Classes.{base64_class}
+use Rattle.sbuf_nest.specs.Around.{Around, look_at}
+use Rattle.sbuf_nest.specs.Edges.{begins_run}
+use Rattle.sbuf_nest.specs.Marks.{NoneFrom}
+use Rattle.sbuf_nest.specs.Runs.{begins_row, NoRowFrom}
+use Rattle.sbuf_nest.specs.declared.mark.Extent.{Extent}
+use Rattle.decode_base64.specs.Base64.{line_breaks, ends_line, begins_text, text_extent, base64_extent}
+use Rattle.decode_base64.specs.Text.{letter_count, base64_text, IsText}
+use Rattle.decode_base64.specs.Starts.{base64_starts}
+use Rattle.decode_base64.specs.declared.TheConstants.{LINE_LEAST}
+use Rattle.decode_base64.proofs.Counts.{text_within}
+
+-- a line break behind a line of letters stands right ahead
+abbrev pub follows_line : Around → Bool
+follows_line look = list_any (ends_line look.before) line_breaks
+
+not_begins_text : (enough follows : Bool) → (enough && false && not follows) ≡ false
+not_begins_text true follows = refl
+not_begins_text false follows = refl
+
+not_follows_text : (enough begins : Bool) → (enough && begins && false) ≡ false
+not_follows_text true true = refl
+not_follows_text true false = refl
+not_follows_text false begins = refl
+
+not_begun : (enough begins follows : Bool) → (begins ≡ false) ⊎ (follows ≡ true) ⊎ (enough ≡ false) → (enough && begins && not follows) ≡ false
+not_begun enough begins follows (inl e) = rw e (not_begins_text enough follows)
+not_begun enough begins follows (inr (inl e)) = rw e (not_follows_text enough begins)
+not_begun enough begins follows (inr (inr e)) = rw e refl
+
+abbrev text_at : Around → Extent
+text_at look = record { bytes = text_extent look.after; units = letter_count (take (text_extent look.after) look.after) }
+
+module _ (look : Around) where
+  not_begins : begins_text look ≡ false → base64_text look ≡ None
+  unfolding base64_text base64_extent
+  not_begins is = rw is refl
+
+  pub none_inside : begins_run base64_class look ≡ false → base64_text look ≡ None
+  none_inside e = not_begins (not_begun (nat_le LINE_LEAST (prefix_len base64_class look.after)) (begins_run base64_class look) (follows_line look) (inl e))
+
+  pub none_behind : follows_line look ≡ true → base64_text look ≡ None
+  none_behind e = not_begins (not_begun (nat_le LINE_LEAST (prefix_len base64_class look.after)) (begins_run base64_class look) (follows_line look) (inr (inl e)))
+
+  pub none_short : prefix_len base64_class look.after < LINE_LEAST → base64_text look ≡ None
+  none_short few =
+      let e : nat_le LINE_LEAST (prefix_len base64_class look.after) ≡ false = grind (arith, nat_tests) in
+      not_begins (not_begun (nat_le LINE_LEAST (prefix_len base64_class look.after)) (begins_run base64_class look) (follows_line look) (inr (inr e)))
+
+  pub some_text : (text : Extent) → begins_run base64_class look ≡ true → follows_line look ≡ false → LINE_LEAST ≤ prefix_len base64_class look.after
+      → text.bytes ≡ text_extent look.after → text.units ≡ letter_count (take text.bytes look.after) → base64_text look ≡ Some text
+  unfolding base64_text base64_extent
+  some_text text begins ahead enough bytes units =
+      let e : nat_le LINE_LEAST (prefix_len base64_class look.after) ≡ true = grind (arith, nat_tests) in
+      rw (e, begins, ahead) (ap (λ n. Some (record { bytes = n; units = letter_count (take n look.after) })) (sym bytes) ∙ ap (λ n. Some (record { bytes = text.bytes; units = n })) (sym units))
+
+  -- no run of enough letters begins
+  no_row : (begins : Bool) → begins_run base64_class look ≡ begins → (begins && nat_le LINE_LEAST (prefix_len base64_class look.after)) ≡ false → base64_text look ≡ None
+  no_row true is few = none_short (grind (arith, nat_tests))
+  no_row false is few = none_inside is
+
+  pub none_of_row : begins_row base64_class LINE_LEAST look ≡ false → base64_text look ≡ None
+  unfolding begins_row
+  none_of_row none = no_row (begins_run base64_class look) refl none
+
+pub none_from : (bytes : List ℕ) (first end : ℕ) → NoRowFrom base64_class LINE_LEAST bytes first end → NoneFrom base64_starts bytes first end
+none_from bytes first end none place low high = rw (none_of_row (look_at bytes place) (none place low high)) refl
+
+-- ---- inside a run
+
+-- a run that goes on from a letter
+pub none_in_run : (bytes : List ℕ) (least next to n : ℕ) → 0 < next → next ≤ to → to ≤ length bytes → n ≤ prefix_len base64_class (drop next (take to bytes))
+    → base64_class (slice_index bytes (next - 1)) ≡ true → NoRowFrom base64_class least bytes next (next + n)
+none_in_run bytes least next to n some ordered within run first =
+    let rest = drop next (take to bytes) in
+    let short = prefix_len-le-length base64_class rest in
+    row_inside base64_class bytes least next (next + n) some (omega (arith, run, short, length-drop next (take to bytes), length-take to bytes, ordered))
+    (λ k low high. elim (cases_lt next k) [
+      | inl behind ↦ (
+          let j = k - 1 - next in
+          let here : next + j ≡ k - 1 = omega (arith, behind) in
+          ap (λ i. base64_class (get_or bytes i 0)) (sym here)
+          ∙ ap base64_class (sym (get_or-drop next (take to bytes) j 0 ∙ get_or-take to bytes (next + j) 0 (omega (arith, behind, high, run, short, length-drop next (take to bytes), length-take to bytes))))
+          ∙ prefix_len_passes base64_class rest j 0 (omega (arith, behind, high, run)))
+      | inr same ↦ (
+          let e : k ≡ next = omega (arith, same, low) in
+          ap (λ i. base64_class (get_or bytes (i - 1) 0)) e ∙ first)
+    ])
+
+-- two ranges, one behind the other
+pub none_joined : (bytes : List ℕ) (least first middle end : ℕ) → NoRowFrom base64_class least bytes first middle → NoRowFrom base64_class least bytes middle end
+    → NoRowFrom base64_class least bytes first end
+none_joined bytes least first middle end one two place low high = elim (cases_lt place middle) [
+  | inl ahead ↦ one place low ahead
+  | inr behind ↦ two place behind high
+]
+
+-- ---- a text that was found
+
+found_if : (begins : Bool) (n : ℕ) (f : ℕ → Extent) (text : Extent) → option_map f (if begins then Some n else None) ≡ Some text → text ≡ f n
+found_if true n f text is = cc is
+found_if false n f text is = absurd (cc is)
+
+found : (look : Around) (text : Extent) → base64_text look ≡ Some text → text ≡ text_at look
+unfolding base64_text base64_extent
+found look text is = found_if (begins_text look) (text_extent look.after) _ text is
+
+module _ (after : List ℕ) (text : Extent) (given : IsText after text) where
+  pub given_within : text.bytes ≤ length after
+  given_within =
+      let is = found (record { before = given.0; after = after }) text given.1 in
+      omega (arith, ap (λ (t : Extent). t.bytes) is, text_within after)
+
+  pub given_letters : text.units ≡ letter_count (take text.bytes after)
+  given_letters =
+      let is = found (record { before = given.0; after = after }) text given.1 in
+      ap (λ (t : Extent). t.units) is ∙ ap (λ n. letter_count (take n after)) (sym (ap (λ (t : Extent). t.bytes) is))

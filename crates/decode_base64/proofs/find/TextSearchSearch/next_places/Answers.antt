@@ -1,0 +1,15 @@
+use Rattle.decode_base64.proofs.Texts.{none_from, none_joined}
+use Rattle.decode_base64.proofs.find.TextSearchSearch.next_places.Goals as goal
+
+pub returns-then-at-own_to-clause-none : goal.returns-then-at-own_to-clause-none
+returns-then-at-own_to-clause-none c =
+    let bytes = c.args.sb.now.bytes.now in
+    none_from bytes c.args.next c.args.sb.now.own_to
+    (none_joined bytes 32 c.args.next c.past_run-from.result c.args.sb.now.own_to c.past_run-from.ensures.none
+    (rw (c.if-at-own_to.true, c.own_to-3.ensures) at c.next_row-at.ensures.none))
+
+pub returns-clause-ahead : goal.returns-clause-ahead
+returns-clause-ahead c =
+    let bytes = c.args.sb.now.bytes.now in
+    none_from bytes c.args.next c.next_row-at.result
+    (none_joined bytes 32 c.args.next c.past_run-from.result c.next_row-at.result c.past_run-from.ensures.none c.next_row-at.ensures.none)

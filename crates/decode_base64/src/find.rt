@@ -1,0 +1,76 @@
+// The search of a buffer for where Base64 texts begin.
+//
+// It judges the places where as many letters stand in a row as the first line of a text has. A run is
+// judged once, at its first place, and most lines of mail are turned down by the line ahead of them, before
+// they are measured. The texts of two places don't overlap, so each byte is measured about twice.
+ghost use Rattle.std.specs.Prelude.{◌≡◌, ◌≤◌, ◌++◌, length, OnOk, OnErr};
+ghost use Rattle.byte_kit.specs.Classes.{base64_class};
+ghost use Rattle.sbuf_nest.specs.Marks.{owned_marks, AppendsFirst};
+ghost use Rattle.sbuf_nest.specs.Runs.{NoRowFrom};
+ghost use Rattle.decode_base64.specs.Starts.{base64_starts};
+ghost use Rattle.decode_base64.specs.declared.TheConstants.{LINE_LEAST};
+
+use crate::letters::{Letters, letters_len};
+use crate::{LINE_LEAST, b64_text};
+use byte_kit::{NoMemory, is_base64};
+use forensic_path::Decoder;
+use sbuf_nest::{Look, Places, Sbuf, Search, Start, Starts, find_marks, next_row};
+
+/// Appends where the Base64 texts begin among the places that the buffer owns, in order of place; the
+/// extent is `b64_text` there. Its one refusal is want of memory, which leaves the first few of these
+/// starts appended.
+pub fn find_texts(sb: &Sbuf, starts: &mut Starts) -> Result<(), NoMemory>
+    ensures ok { OnOk result (starts.new ≡ starts.old ++ owned_marks base64_starts sb.now) }
+    ensures err { OnErr result (AppendsFirst starts.old starts.new (owned_marks base64_starts sb.now)) }
+{
+    find_marks(sb, &mut TextSearch, starts)
+}
+
+// The search for the starts of texts.
+#[derive(Drop)]
+struct TextSearch;
+
+impl Search for TextSearch {
+    type Item = Start;
+
+    ghost judge = { λ _. base64_starts };
+
+    // The next place where enough letters stand in a row, behind the run that `next` may stand in.
+    fn next_places(&mut self, sb: &Sbuf, next: usize) -> Option<Places> {
+        let from = past_run(sb.bytes, next, sb.own_to());
+        let at = next_row::<Letters>(sb.bytes, from, sb.own_to(), LINE_LEAST);
+        if at == sb.own_to() {
+            return None;
+        }
+        Some(Places {
+            from: at,
+            to: at + 1,
+        })
+    }
+
+    fn marks_into(
+        &mut self,
+        look: &Look,
+        place: usize,
+        starts: &mut Starts,
+    ) -> Result<(), NoMemory> {
+        starts.add_text(place, Decoder::Base64, b64_text(look))
+    }
+}
+
+// The end of the run of letters that `next` stands in, or `next` where none began ahead of it. `next_row`
+// would look at each letter.
+fn past_run(bytes: &[u8], next: usize, to: usize) -> usize
+    requires ordered { next ≤ to }
+    requires within { to ≤ length bytes.now }
+    ensures low { next ≤ result }
+    ensures high { result ≤ to }
+    ensures none { NoRowFrom base64_class LINE_LEAST bytes.now next result }
+{
+    if next == 0 || !is_base64(bytes[next - 1]) {
+        return next;
+    }
+    let (seen, _) = bytes.split_at(to);
+    let (_, rest) = seen.split_at(next);
+    next + letters_len(rest)
+}

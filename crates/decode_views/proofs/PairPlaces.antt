@@ -1,0 +1,106 @@
+-- Where no run of pairs begins.
+use Rattle.std.proofs.Common.{◌≡◌, ◌∙◌, ℕ, ◌+◌, ◌-◌, ◌*◌, ◌/◌, ◌<◌, ◌≤◌, true, false, ◌==◌, List, [], length, take, drop, get_or, refl, sym, ap, subst, inl, inr, arith, length-drop}
+use Rattle.std.specs.Prelude.{nat_le}
+use Rattle.std.proofs.lemmas.Bool.{cases_lt, false≢true}
+use Rattle.std.proofs.lemmas.Bool.Decides.{nat_tests}
+use Rattle.std.proofs.lemmas.List.{get_or-take, length-take, drop-drop}
+use Rattle.sbuf_nest.specs.Around.{look_at}
+use Rattle.sbuf_nest.specs.Marks.{NoneFrom}
+use Rattle.sbuf_nest.specs.declared.look.TheConstants.{LOOK_BEFORE, LOOK_AFTER}
+use Rattle.decode_views.specs.Utf16.{is_pair, pairs_in, last_pairs, begins_pairs, utf16_run, utf16_extent}
+use Rattle.decode_views.specs.Starts.{utf16_starts}
+use Rattle.decode_views.proofs.Pairs.{one_at, and_false, second_begins_none, pairs_within, pairs_in-take, pair_at, none_at}
+
+too_few : (pairs : ℕ) → pairs < 8 → nat_le 8 pairs ≡ false
+too_few pairs few = grind (arith, nat_tests)
+
+module _ (bytes : List ℕ) where
+  fewer_taken : (count place : ℕ) → pairs_in (drop place bytes) < 8 → pairs_in (take count (drop place bytes)) < 8
+  fewer_taken count place few = omega (arith, few, pairs_in-take count (drop place bytes))
+
+  -- ---- places without a run
+
+  -- too few pairs stand in a row
+  pub few_pairs : (place : ℕ) → pairs_in (drop place bytes) < 8 → utf16_starts (look_at bytes place) place ≡ []
+  unfolding utf16_run utf16_extent look_at
+  few_pairs place few =
+      let none = too_few (pairs_in (take LOOK_AFTER (drop place bytes))) (fewer_taken LOOK_AFTER place few) in
+      rw (and_false (begins_pairs (look_at bytes place)) _ none) refl
+
+  -- the last two bytes ahead are those of the Look
+  last_seen : (place : ℕ) → place ≤ length bytes → last_pairs (drop (place - LOOK_BEFORE) (take place bytes)) ≡ last_pairs (take place bytes)
+  last_seen place within =
+      let ahead = take place bytes in
+      let taken = length-take place bytes in
+      let long = length-drop (place - LOOK_BEFORE) ahead in
+      let e : place - LOOK_BEFORE + (length (drop (place - LOOK_BEFORE) ahead) - 2) ≡ length ahead - 2 = omega (arith, taken, long) in
+      ap pairs_in (drop-drop (length (drop (place - LOOK_BEFORE) ahead) - 2) (place - LOOK_BEFORE) ahead ∙ ap (λ k. drop k ahead) e)
+
+  -- a pair stands right ahead
+  pub pair_ahead : (place : ℕ) → place ≤ length bytes → (last_pairs (take place bytes) == 0) ≡ false → utf16_starts (look_at bytes place) place ≡ []
+  unfolding utf16_run utf16_extent look_at
+  pair_ahead place within is =
+      let begins : begins_pairs (look_at bytes place) ≡ false = ap (λ pairs. pairs == 0) (last_seen place within) ∙ is in
+      rw begins refl
+
+  last_pair : (place : ℕ) → place + 2 ≤ length bytes → is_pair (get_or bytes place 0) (get_or bytes (place + 1) 0) ≡ true → (last_pairs (take (place + 2) bytes) == 0) ≡ false
+  last_pair place within is =
+      let ahead = take (place + 2) bytes in
+      let taken = length-take (place + 2) bytes in
+      let e : length ahead - 2 ≡ place = omega (arith, taken) in
+      let first : get_or ahead place 0 ≡ get_or bytes place 0 = get_or-take (place + 2) bytes place 0 (omega arith) in
+      let second : get_or ahead (place + 1) 0 ≡ get_or bytes (place + 1) 0 = get_or-take (place + 2) bytes (place + 1) 0 (omega arith) in
+      let one = one_at ahead place (omega (arith, taken)) (rw (first, second) is) in
+      ap (λ k. pairs_in (drop k ahead) == 0) e ∙ grind (arith, nat_tests, one)
+
+  -- ---- places passed over
+
+  -- of eight pairs that begin at one of sixteen places one stands at the last but one of them or at the last
+  pub none_far : (at : ℕ) → is_pair (get_or bytes (at + 14) 0) (get_or bytes (at + 15) 0) ≡ false → is_pair (get_or bytes (at + 15) 0) (get_or bytes (at + 16) 0) ≡ false
+      → NoneFrom utf16_starts bytes at (at + 16)
+  none_far at first second place low high =
+      few_pairs place (
+      elim (cases_lt (pairs_in (drop place bytes)) 8) [
+        | inl few ↦ few
+        | inr eight ↦ (
+            let pair = (at + 15 - place) / 2 in
+            elim (cases_lt (place + 2 * pair) (at + 15)) [
+              | inl even ↦ absurd (false≢true (sym first ∙ pair_at bytes place pair (at + 14) (at + 15) (omega (arith, eight, low, high)) (omega (arith, even, low, high)) (omega arith)))
+              | inr odd ↦ absurd (false≢true (sym second ∙ pair_at bytes place pair (at + 15) (at + 16) (omega (arith, eight, low, high)) (omega (arith, odd, low, high)) (omega arith)))
+            ]
+            )
+      ]
+      )
+
+  -- the pairs from a place on where none begins, and the place behind them
+  pub none_over : (at pairs : ℕ) → at < length bytes → pairs ≤ pairs_in (drop at bytes) → utf16_starts (look_at bytes at) at ≡ []
+      → NoneFrom utf16_starts bytes at (at + (2 * pairs + 1))
+  none_over at pairs within some none place low high =
+      let pair = (place - at - 1) / 2 in
+      elim (cases_lt at place) [
+        | inl behind ↦ (
+            let here = pair_at bytes at pair (at + 2 * pair) (at + 2 * pair + 1) (omega (arith, some, low, high, behind)) refl refl in
+            elim (cases_lt (at + 2 * pair + 1) place) [
+              | inl even ↦ (
+                  let e : at + 2 * pair + 2 ≡ place = omega (arith, even, behind) in
+                  let inside : place ≤ length bytes = omega (arith, some, high, pairs_within (drop at bytes), length-drop at bytes, within) in
+                  let last = last_pair (at + 2 * pair) (omega (arith, e, inside)) here in
+                  pair_ahead place inside (ap (λ k. last_pairs (take k bytes) == 0) (sym e) ∙ last)
+                  )
+              | inr odd ↦ (
+                  let e : place ≡ at + 2 * pair + 1 = omega (arith, odd, behind) in
+                  let second = second_begins_none (get_or bytes (at + 2 * pair) 0) (get_or bytes (at + 2 * pair + 1) 0) (get_or bytes (place + 1) 0) here in
+                  let begins_none = none_at bytes place (ap (λ k. is_pair (get_or bytes k 0) (get_or bytes (place + 1) 0)) e ∙ second) in
+                  few_pairs place (omega (arith, begins_none))
+                  )
+            ]
+            )
+        | inr here ↦ (
+            let e : at ≡ place = omega (arith, here, low) in
+            subst (λ p. utf16_starts (look_at bytes p) p ≡ []) e none
+            )
+      ]
+
+  -- the bytes end ahead of eight pairs
+  pub none_to_end : (place : ℕ) → length bytes < place + 16 → utf16_starts (look_at bytes place) place ≡ []
+  none_to_end place short = few_pairs place (omega (arith, pairs_within (drop place bytes), length-drop place bytes, short))

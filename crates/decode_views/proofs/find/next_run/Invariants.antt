@@ -1,0 +1,14 @@
+use Rattle.std.proofs.Common.{◌-◌, ◌≤◌}
+use Rattle.sbuf_nest.specs.Marks.{NoneFrom}
+use Rattle.decode_views.specs.Starts.{utf16_starts}
+use Rattle.decode_views.proofs.find.next_run.Given as goal
+
+-- no run begins ahead of the place
+abbrev pub invariant-loop-at : goal.invariant-loop-at
+invariant-loop-at l = record {
+  low : l.next ≤ l.at;
+  none : NoneFrom utf16_starts l.bytes l.next l.at;
+}
+
+abbrev pub decreases-loop-at : goal.decreases-loop-at
+decreases-loop-at l = l.to - l.at
