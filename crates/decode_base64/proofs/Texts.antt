@@ -7,7 +7,7 @@ use Rattle.std.proofs.lemmas.Bool.{cases_lt}
 use Rattle.std.proofs.lemmas.Bool.Decides.{nat_tests}
 use Rattle.std.proofs.lemmas.List.{get_or-drop, get_or-take, length-take}
 use Rattle.std.proofs.lemmas.List.Sums.{prefix_len_passes, prefix_len-le-length}
-use Rattle.sbuf_nest.proofs.ClassRuns.{none_inside as row_inside}
+use Rattle.sbuf_nest.proofs.ClassRuns.{none_to_stranger, none_inside as row_inside}
 use Rattle.byte_kit.specs.Classes.{base64_class}
 use Rattle.sbuf_nest.specs.Around.{Around, look_at}
 use Rattle.sbuf_nest.specs.Edges.{begins_run}
@@ -96,6 +96,32 @@ none_in_run bytes least next to n some ordered within run first =
           let e : k ≡ next = omega (arith, same, low) in
           ap (λ i. base64_class (get_or bytes (i - 1) 0)) e ∙ first)
     ])
+
+-- no run begins where no letter stands
+pub none_at_stranger : (bytes : List ℕ) (place : ℕ) → base64_class (slice_index bytes place) ≡ false → begins_row base64_class LINE_LEAST (look_at bytes place) ≡ false
+none_at_stranger bytes place other = none_to_stranger base64_class bytes LINE_LEAST place place place (omega arith) (omega arith) other (omega arith) (omega arith)
+
+lf_is_none : base64_class 10 ≡ false
+unfolding base64_class
+lf_is_none = refl
+
+cr_is_none : base64_class 13 ≡ false
+unfolding base64_class
+cr_is_none = refl
+
+pub none_at_lf : (byte : ℕ) → byte ≡ 10 → base64_class byte ≡ false
+none_at_lf byte is = ap base64_class is ∙ lf_is_none
+
+pub none_at_cr : (byte : ℕ) → byte ≡ 13 → base64_class byte ≡ false
+none_at_cr byte is = ap base64_class is ∙ cr_is_none
+
+-- one place more
+pub none_more : (bytes : List ℕ) (first place : ℕ) → NoRowFrom base64_class LINE_LEAST bytes first place → base64_class (slice_index bytes place) ≡ false
+    → NoRowFrom base64_class LINE_LEAST bytes first (place + 1)
+none_more bytes first place none other k low high = elim (cases_lt k place) [
+  | inl ahead ↦ none k low ahead
+  | inr here ↦ (let e : k ≡ place = omega (arith, here, high) in rw e (none_at_stranger bytes place other))
+]
 
 -- two ranges, one behind the other
 pub none_joined : (bytes : List ℕ) (least first middle end : ℕ) → NoRowFrom base64_class least bytes first middle → NoRowFrom base64_class least bytes middle end

@@ -35,9 +35,11 @@ impl Search for TextSearch {
 
     ghost judge = { λ _. base64_starts };
 
-    // The next place where enough letters stand in a row, behind the run that `next` may stand in.
+    // The next place where enough letters stand in a row, behind the run that `next` may stand in and the
+    // line break behind it.
     fn next_places(&mut self, sb: &Sbuf, next: usize) -> Option<Places> {
-        let from = past_run(sb.bytes, next, sb.own_to());
+        let behind = past_run(sb.bytes, next, sb.own_to());
+        let from = past_break(sb.bytes, behind, sb.own_to());
         let at = next_row::<Letters>(sb.bytes, from, sb.own_to(), LINE_LEAST);
         if at == sb.own_to() {
             return None;
@@ -73,4 +75,20 @@ fn past_run(bytes: &[u8], next: usize, to: usize) -> usize
     let (seen, _) = bytes.split_at(to);
     let (_, rest) = seen.split_at(next);
     next + letters_len(rest)
+}
+
+// The place behind the bytes of a line break at `next`, if one stands there.
+fn past_break(bytes: &[u8], next: usize, to: usize) -> usize
+    requires ordered { next ≤ to }
+    requires within { to ≤ length bytes.now }
+    ensures low { next ≤ result }
+    ensures high { result ≤ to }
+    ensures none { NoRowFrom base64_class LINE_LEAST bytes.now next result }
+{
+    for place in next..to {
+        if bytes[place] != b'\r' && bytes[place] != b'\n' {
+            return place;
+        }
+    }
+    to
 }
