@@ -20,6 +20,7 @@ demo: all
 	printf '\000\001\002see http://example.com/a b\377\376HTTPS://Example.org/?u=ftp://files.example.net/x\n\000\000' > $(SCRATCH)/image
 	printf 'E\000\000s\000\000@\000@\021\270a\300\250\000\001\300\250\000\307' >> $(SCRATCH)/image
 	printf '\177ELF\002\001\001\000\000\000\000\000\000\000\000\000\002\000\076\000\037\213\010' >> $(SCRATCH)/image
+	printf '\naHR0cDovL2V4YW1wbGUuY29tL2hlbGxvLXdvcmxkLTE=\n' >> $(SCRATCH)/image
 	$(PROGRAM) scan $(SCRATCH)/image $(SCRATCH)/report
 	cd $(SCRATCH)/report && tail -n +4 url.txt domain.txt ip.txt exec.txt unread.txt
 

@@ -9,8 +9,9 @@
 #   find           8 keywords, of which few stand there; `find1` and `find64` that many: `find_given_into`
 #   pattern        4 patterns, of which few match; `pattern1` one: the same
 #   word           words of 6 to 14 bytes: `find_words`
-#   all            the features of a scan by every scanner that is built but the one for words, without
-#                  keywords and patterns: `scan_owned`
+#   base64 hex utf16   where such texts begin: `find_texts`, `find_runs`
+#   all            the features of a scan by every scanner but the one for words, without keywords and
+#                  patterns, five levels deep: `scan_owned`
 #   peer           only where PEER names another program that knows `scan [OPTIONS] IMAGE OUT`: its whole
 #                  scan with the options PEER_WORDS, without the time that it takes on an empty image
 #
@@ -21,7 +22,7 @@ export LC_ALL=C
 
 RUNS=${RUNS:-10}
 MANY=${MANY:-11}
-SEARCHES=${SEARCHES:-url net exec find1 find find64 pattern1 pattern word all}
+SEARCHES=${SEARCHES:-url net exec find1 find find64 pattern1 pattern word base64 hex utf16 all}
 SCAN_SPEED=${SCAN_SPEED:-crates/scan_speed/out/scan_speed}
 PEER=${PEER:-}
 PEER_WORDS=${PEER_WORDS:-}

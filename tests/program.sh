@@ -123,6 +123,12 @@ report out '' ''
 } > "$scratch/want/out/unread.txt"
 ends 0 'done pages=1 features=7\nip.txt 2\nether.txt 2\nexec.txt 1\nunread.txt 2\n' scan image out
 
+begin 'URLs in Base64 over two lines, in hexadecimal digits and in UTF-16'
+both image 'aHR0cDovL2V4YW1wbGUuY29tL2hlbGxv\r\nLXdvcmxkLTE= 687474703a2f2f612e622f3031323334 h\0t\0t\0p\0:\0/\0/\0c\0.\0d\0/\0'
+report out '0-BASE64-0\thttp://example.com/hello-world-1\thttp://example.com/hello-world-1\n47-HEX-0\thttp://a.b/01234\thttp://a.b/01234\n80-UTF16-0\thttp://c.d/\thttp://c.d/\n' \
+    '0-BASE64-7\texample.com\thttp://example.com/hello-world-1\n47-HEX-7\ta.b\thttp://a.b/01234\n80-UTF16-7\tc.d\thttp://c.d/\n'
+ends 0 'done pages=1 features=6\nurl.txt 3\ndomain.txt 3\n' scan image out
+
 begin 'a keyword, and a pattern at each place'
 both image 'xaab'
 report out '' ''

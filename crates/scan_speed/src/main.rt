@@ -3,9 +3,10 @@
 //! itself, without the start of a program and the reading of a file.
 //!
 //! SEARCH is `url` (URLs and domains), `net` (packets), `exec` (executables and compressed files), `find`
-//! (8 keywords, and `find1` or `find64` that many), `pattern` (4 patterns, and `pattern1` one) or `word`
-//! (words of 6 to 14 bytes), which count marks, or `all`, which counts the features of a scan by every
-//! scanner that is built but the one for words, without keywords and patterns.
+//! (8 keywords, and `find1` or `find64` that many), `pattern` (4 patterns, and `pattern1` one), `word`
+//! (words of 6 to 14 bytes), `base64`, `hex` or `utf16` (where such texts begin), which count marks and
+//! starts, or `all`, which counts the features of a scan by every scanner but the one for words, without
+//! keywords and patterns, five levels deep.
 #![tactic(auto)]
 
 mod keywords;

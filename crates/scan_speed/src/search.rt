@@ -1,10 +1,10 @@
 // The searches that are timed.
-ghost use Rattle.scan_set.specs.Built.{IsBuilt, IsLawful};
+ghost use Rattle.scan_set.specs.Lawful.{IsLawful};
 
 use crate::keywords::{KEYWORDS, PATTERNS};
 use byte_kit::{Bytes, Names, NoMemory, Texts};
 use pattern_kit::{Kit, RegexKit, RegexMatcher, WordMatcher};
-use sbuf_nest::{Found, Sbuf};
+use sbuf_nest::{Found, Sbuf, Starts};
 use scan_exec::find_execs;
 use scan_find::{Lengths, PATTERNS_MOST, are_keywords, find_given_into};
 use scan_net::find_packets;
@@ -13,9 +13,12 @@ use scan_url::find_urls;
 use scan_wordlist::find_words;
 use std::alloc::Global;
 
-// The scanners that are on in a search for everything, a bit each: every one that is built but the one
-// for words, which is mostly off.
-const SCANNERS: u16 = 0x003F;
+// The scanners and decoders that are on in a search for everything, a bit each: all but the one for
+// words, which is mostly off.
+const SCANNERS: u16 = 0x03BF;
+
+// How many buffers deep decoded bytes are searched.
+const DEPTH: u8 = 5;
 
 // How many bytes of context a feature has on either side.
 const CONTEXT_BYTES: u16 = 16;
@@ -40,6 +43,12 @@ pub enum Search {
     Pattern(usize),
     /// Words.
     Word,
+    /// Where Base64 texts begin.
+    Base64,
+    /// Where runs of hexadecimal digits begin.
+    Hex,
+    /// Where runs of UTF-16 pairs begin.
+    Utf16,
     /// All that a scan finds, as features with their paths and contexts.
     All,
 }
@@ -57,6 +66,9 @@ impl Search {
             "pattern1" => Some(Search::Pattern(1)),
             "pattern" => Some(Search::Pattern(4)),
             "word" => Some(Search::Word),
+            "base64" => Some(Search::Base64),
+            "hex" => Some(Search::Hex),
+            "utf16" => Some(Search::Utf16),
             "all" => Some(Search::All),
             _ => None,
         }
@@ -73,7 +85,7 @@ pub struct Searcher {
     matchers: Vec<RegexMatcher>,
     lengths: Lengths,
     found: Found,
-    ghost built: { IsBuilt plan },
+    starts: Starts,
     ghost lawful: { IsLawful plan },
 }
 
@@ -82,7 +94,7 @@ impl Searcher {
     pub fn make(alloc: Global) -> Result<Searcher, NoMemory> {
         let plan = ScanPlan {
             scanners: SCANNERS,
-            depth: 0,
+            depth: DEPTH,
             mask: 0,
             word_min: WORD_LEAST,
             word_max: WORD_MOST,
@@ -99,12 +111,14 @@ impl Searcher {
             matchers: matchers_of(alloc)?,
             lengths: Lengths::make(alloc),
             found: Found::make(alloc),
+            starts: Starts::make(alloc),
         })
     }
 
-    /// Searches the buffer, and gives how many marks or features that finds.
+    /// Searches the buffer, and gives how many marks, starts or features that finds.
     pub fn run(&mut self, search: Search, sb: &Sbuf) -> Result<usize, NoMemory> {
         self.found.clear();
+        self.starts.clear();
         match search {
             Search::Url => find_urls(sb, true, true, &mut self.found)?,
             Search::Net => find_packets(sb, &mut self.found)?,
@@ -112,9 +126,13 @@ impl Searcher {
             Search::Find(count) => self.find_keywords(count, sb)?,
             Search::Pattern(count) => self.find_patterns(count, sb)?,
             Search::Word => find_words(sb, WORD_LEAST, WORD_MOST, &mut self.found)?,
+            Search::Base64 => decode_base64::find_texts(sb, &mut self.starts)?,
+            Search::Hex => decode_hex::find_runs(sb, &mut self.starts)?,
+            Search::Utf16 => decode_views::find_runs(sb, &mut self.starts)?,
             Search::All => return Ok(scan_owned(sb, &self.plan, &mut self.tools)?.len()),
         }
-        Ok(self.found.marks().len())
+        let marks = self.found.marks().len();
+        Ok(marks.saturating_add(self.starts.items().len()))
     }
 
     // Searches the buffer for the first so many keywords.

@@ -8,8 +8,7 @@ use Rattle.forensic_path.specs.declared.feature.Class.TheVariants.{Plain}
 use Rattle.forensic_path.specs.declared.feature.Classed.{Classed}
 use Rattle.host_disk.specs.Files.{Files}
 use Rattle.scan_set.specs.Here.{features_of, owned}
-use Rattle.scan_set.proofs.Blocks.{owned-none, owned-join}
-use Rattle.scan_set.proofs.Images.{features_owned}
+use Rattle.scan_set.proofs.Images.{owned-none, owned-join, features_owned}
 use Rattle.stop_lists.specs.Lists.{classed_by}
 use Rattle.stop_lists.proofs.NoLists.{all_plain}
 use Rattle.feature_file.specs.Files.{report_files, is_written, is_histogram}

@@ -25,7 +25,7 @@ mod text;
 mod words;
 
 pub use call::{Outcome, triage};
-pub use plan::{CONTEXT_BYTES, PAGE_BYTES, SCANNERS_BUILT, WORD_FEWEST, WORD_MOST};
+pub use plan::{CONTEXT_BYTES, DEPTH, PAGE_BYTES, SCANNERS_BUILT, WORD_FEWEST, WORD_MOST};
 pub use scan::IMAGE_MOST;
 pub use status::{ReadPlace, Status, Unbuilt, Why};
 pub use words::PLACES_MOST;

@@ -39,6 +39,24 @@ const ROWS: &[(&str, &str, &str, &str)] = &[
         "done pages=1 features=4\nurl.txt 2\ndomain.txt 2\n",
     ),
     ("x ftp://", "", "", "done pages=1 features=0\n"),
+    (
+        "                                                                                                    aHR0cDovL2V4YW1wbGUuY29tL2hlbGxvLXdvcmxkLTE=",
+        "100-BASE64-0\thttp://example.com/hello-world-1\thttp://example.com/hello-world-1\n",
+        "100-BASE64-7\texample.com\thttp://example.com/hello-world-1\n",
+        "done pages=1 features=2\nurl.txt 1\ndomain.txt 1\n",
+    ),
+    (
+        "aHR0cDovL2V4YW1wbGUuY29tL2hlbGxv\r\nLXdvcmxkLTE=",
+        "0-BASE64-0\thttp://example.com/hello-world-1\thttp://example.com/hello-world-1\n",
+        "0-BASE64-7\texample.com\thttp://example.com/hello-world-1\n",
+        "done pages=1 features=2\nurl.txt 1\ndomain.txt 1\n",
+    ),
+    (
+        "aHR0cDovL2V4YW1wbGUuY29tL2hlbGx",
+        "",
+        "",
+        "done pages=1 features=0\n",
+    ),
     ("HTTPS://X", "0\tHTTPS://X\tHTTPS://X\n", "", ONE_URL),
     (
         "http://jo.doe@h.org/",

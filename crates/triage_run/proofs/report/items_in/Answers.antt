@@ -2,7 +2,7 @@ use Rattle.std.proofs.Common.{◌∙◌, ◌≤◌, ◌-◌, ◌++◌, ℕ, List
 use Rattle.forensic_path.specs.declared.feature.Class.TheVariants.{Plain}
 use Rattle.forensic_path.specs.declared.feature.Feature.{Feature}
 use Rattle.forensic_path.specs.declared.feature.Classed.{Classed}
-use Rattle.triage_run.proofs.LawfulPlans.{plan_is_built, plan_is_lawful}
+use Rattle.triage_run.proofs.LawfulPlans.{plan_is_lawful}
 use Rattle.triage_run.proofs.WholeReport.{items_of, items_of-none, items_of-join, items_of-all}
 use Rattle.triage_run.proofs.report.items_in.Goals as goal
 
@@ -16,7 +16,7 @@ loop-next-init g c =
     }
 
 pub scan_owned-requires : goal.scan_owned-requires
-scan_owned-requires g c = record { built = plan_is_built c.args.plan.now c.requires.plan; lawful = plan_is_lawful c.args.plan.now c.requires.plan }
+scan_owned-requires g c = plan_is_lawful c.args.plan.now c.requires.plan
 
 pub loop-next-preserved : goal.loop-next-preserved
 loop-next-preserved g c =
