@@ -16,7 +16,7 @@ loop-next-init g c =
     }
 
 pub scan_owned-requires : goal.scan_owned-requires
-scan_owned-requires g c = plan_is_lawful c.args.plan.now c.requires.plan
+scan_owned-requires g c = record { lawful = plan_is_lawful c.args.plan.now c.requires.plan }
 
 pub loop-next-preserved : goal.loop-next-preserved
 loop-next-preserved g c =
