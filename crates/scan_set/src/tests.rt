@@ -1,5 +1,5 @@
 ghost use Rattle.std.specs.Prelude.{IfOk};
-ghost use Rattle.scan_set.specs.Built.{IsBuilt, IsLawful};
+ghost use Rattle.scan_set.specs.Lawful.{IsLawful};
 
 use crate::{ScanPlan, Tools, scan_owned};
 use byte_kit::{Bytes, Names, NoMemory, Texts};
@@ -11,7 +11,7 @@ use scan_find::{PATTERNS_MOST, TEXT_MOST};
 use std::alloc::Global;
 use std::test::Fail;
 
-// The bits of the scanners.
+// The bits of the scanners, and of all scanners and decoders.
 const URL: u16 = 1;
 
 const DOMAIN: u16 = 2;
@@ -26,10 +26,10 @@ const FIND: u16 = 32;
 
 const WORD: u16 = 64;
 
-const ALL: u16 = 127;
+const ALL: u16 = 1023;
 
-// What a scan is asked for: the bits of the scanners, how many bytes of context, a keyword, or none
-// where it is empty, and patterns.
+// What a scan of the buffer alone is asked for: the bits of the scanners, how many bytes of context, a
+// keyword, or none where it is empty, and patterns.
 type Asked = (u16, u16, &'static [u8], &'static [&'static str]);
 
 // A feature by its kind, how far behind some place it stands, and its text.
@@ -46,8 +46,7 @@ type Case = (
 );
 
 fn plan_of(alloc: Global, asked: Asked) -> Result<ScanPlan, NoMemory>
-    ensures built { IfOk result (λ plan. IsBuilt plan) }
-    ensures lawful { IfOk result (λ plan. IsLawful plan) }
+    ensures { IfOk result (λ plan. IsLawful plan) }
 {
     let (scanners, context, keyword, _) = asked;
     let mut keywords = Texts::make(alloc);
