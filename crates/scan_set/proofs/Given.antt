@@ -111,9 +111,9 @@ module _ (patterns : List (List ℕ → Option ℕ)) (plan : ScanPlan) where
         ∙ ap (λ (a : List Feature). a ++ flat_map G (map text_event (hex_at plan look at)) ++ flat_map G (map text_event (utf16_at plan look at))) one
         ∙ ap (λ (b : List Feature). flat_map value_gives (map encoded_value (when (is_on plan.scanners scanner.Base64) (encoded Base64 (base64_extent look)))) ++ b ++ flat_map G (map text_event (utf16_at plan look at))) two
         ∙ ap (λ (c : List Feature). flat_map value_gives (map encoded_value (when (is_on plan.scanners scanner.Base64) (encoded Base64 (base64_extent look))))
-            ++ flat_map value_gives (map encoded_value (when (is_on plan.scanners scanner.Hex) (encoded Hex (hex_extent look)))) ++ c) three
+        ++ flat_map value_gives (map encoded_value (when (is_on plan.scanners scanner.Hex) (encoded Hex (hex_extent look)))) ++ c) three
         ∙ sym (flat_map-three encoded_value value_gives (when (is_on plan.scanners scanner.Base64) (encoded Base64 (base64_extent look)))
-            (when (is_on plan.scanners scanner.Hex) (encoded Hex (hex_extent look))) (when (is_on plan.scanners scanner.Utf16) (encoded Utf16 (utf16_extent look))))
+        (when (is_on plan.scanners scanner.Hex) (encoded Hex (hex_extent look))) (when (is_on plan.scanners scanner.Utf16) (encoded Utf16 (utf16_extent look))))
 
   -- ---- those of a place
 
@@ -137,7 +137,7 @@ module _ (patterns : List (List ℕ → Option ℕ)) (plan : ScanPlan) where
       ∙ ap (λ (back : List Feature). map (feature_of plan look (path_at turns place)) (shapes patterns plan look) ++ back) (texts_give left turns look place at)
       ∙ sym (append-nil _)
       ∙ ap (λ (on : Bool). map (feature_of plan look (path_at turns place)) (shapes patterns plan look) ++ flat_map (value_gives left turns look place) (decoded plan look)
-          ++ when on (here patterns plan left (turned turns place (Xor plan.mask)) (xored plan.mask look) 0)) (sym none)
+      ++ when on (here patterns plan left (turned turns place (Xor plan.mask)) (xored plan.mask look) 0)) (sym none)
 
   -- where one is searched, those of the view follow
   pub all_but_view : (left : ℕ) (turns : List Turn) (look : Around) (at place : ℕ) → has_view plan left turns ≡ true →
@@ -157,4 +157,4 @@ module _ (patterns : List (List ℕ → Option ℕ)) (plan : ScanPlan) where
       ∙ ap (λ (front : List Feature). front ++ flat_map G (map text_event (starts_at plan look at))) (own_part (suc left) turns look at place)
       ∙ ap (λ (back : List Feature). map (feature_of plan look (path_at turns place)) (shapes patterns plan look) ++ back) (texts_give left turns look place at))
       ∙ ap (λ (on : Bool). map (feature_of plan look (path_at turns place)) (shapes patterns plan look) ++ flat_map (value_gives left turns look place) (decoded plan look)
-          ++ when on last) (sym some)
+      ++ when on last) (sym some)

@@ -93,7 +93,6 @@ module _ (patterns : List (List ℕ → Option ℕ)) (plan : ScanPlan) where
         ≡ here patterns plan left turns (look_at bytes at) (base + at)
     place_gives = by_view (has_view plan left turns) refl
 
-
   -- the events of a run of places give theirs
   pub run_gives : (left : ℕ) (turns : List Turn) (bytes : List ℕ) (base first count : ℕ) →
       flat_map (event_features patterns plan left turns bytes base) (marks_of (level_events patterns plan left (has_view plan left turns)) bytes first count)

@@ -27,8 +27,8 @@ abbrev pub FitsEvent : ScanPlan → ℕ → List ℕ → Event → Type 0
 FitsEvent plan left bytes event =
     (event.at < length bytes)
     × MatchBool event.in_view
-      ((1 ≤ left) × FitsSign (left - 1) (xored plan.mask (look_at bytes event.at)) event.sign)
-      (FitsSign left (look_at bytes event.at) event.sign)
+    ((1 ≤ left) × FitsSign (left - 1) (xored plan.mask (look_at bytes event.at)) event.sign)
+    (FitsSign left (look_at bytes event.at) event.sign)
 
 -- A scan with so many levels left can begin: the plan is lawful, there are no more patterns than may be
 -- given, and the trail has room for a turn into each level.

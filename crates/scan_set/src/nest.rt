@@ -70,7 +70,12 @@ pub(crate) fn scan_level<M: Matcher>(
         view,
         values,
     } = level;
-    let view = view_of(sb.bytes, plan.mask, takes_view(left, plan, &run.trail), view)?;
+    let view = view_of(
+        sb.bytes,
+        plan.mask,
+        takes_view(left, plan, &run.trail),
+        view,
+    )?;
     let mut next = sb.own_from();
     while next < sb.own_to() {
         let to = (next + BLOCK_BYTES).min(sb.own_to());
@@ -153,7 +158,15 @@ fn add_event<M: Matcher>(
     let place = block.place(event.at);
     if !event.in_view {
         return add_sign(
-            block, event.at, place, &event.sign, left, plan, run, values, deeper,
+            block,
+            event.at,
+            place,
+            &event.sign,
+            left,
+            plan,
+            run,
+            values,
+            deeper,
         );
     }
     let Some(view) = view else {

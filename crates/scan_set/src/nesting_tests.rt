@@ -3,9 +3,8 @@ ghost use Rattle.scan_set.specs.Lawful.{IsLawful};
 
 use crate::{DEPTH_MOST, ScanPlan, Tools, scan_owned};
 use byte_kit::{Names, NoMemory, Texts};
-use forensic_path::Feature;
 use forensic_path::Kind::{self, Domain, Url, Word};
-use forensic_path::path_text;
+use forensic_path::{Feature, path_text};
 use pattern_kit::WordMatcher;
 use sbuf_nest::Sbuf;
 use std::alloc::Global;
@@ -480,12 +479,7 @@ const OWNED: [OwnedCase; 8] = [
             (Domain, "1002-UTF16-7", "a.b"),
         ],
     ),
-    (
-        b"a h\0t\0t\0p\0:\0/\0/\0a\0.\0b\0/\0",
-        (4, 24),
-        0,
-        &[],
-    ),
+    (b"a h\0t\0t\0p\0:\0/\0/\0a\0.\0b\0/\0", (4, 24), 0, &[]),
     (
         b"a \x97\x8b\x8b\x8f\xc5\xd0\xd0\x9e\xd1\x9d\xd0",
         (0, 13),

@@ -108,9 +108,9 @@ fn search_scanners<M: Matcher>(
 fn search_decoders(block: &Sbuf, plan: &ScanPlan, lists: &mut Lists) -> Result<(), NoMemory>
     ensures { OnOk result
         (lists.new.events.items.items ≡ merged_events (merged_events (merged_events lists.old.events.items.items
-            (map text_event (owned_marks (base64_at plan.now) block.now)))
-            (map text_event (owned_marks (hex_at plan.now) block.now)))
-            (map text_event (owned_marks (utf16_at plan.now) block.now))) }
+        (map text_event (owned_marks (base64_at plan.now) block.now)))
+        (map text_event (owned_marks (hex_at plan.now) block.now)))
+        (map text_event (owned_marks (utf16_at plan.now) block.now))) }
 {
     search_base64(block, plan, &mut lists.starts)?;
     lists.events.merge(lists.starts.items())?;

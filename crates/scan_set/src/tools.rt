@@ -3,10 +3,10 @@ ghost use Rattle.std.specs.Prelude.{◌≡◌, ◌<◌, ◌≤◌, length, IfOk}
 ghost use Rattle.scan_find.specs.declared.TheConstants.{PATTERNS_MOST};
 ghost use Rattle.scan_set.specs.declared.plan.TheConstants.{DEPTH_MOST};
 
+use crate::ScanPlan;
 use crate::level::Level;
 use crate::nest::Run;
 use crate::plan::DEPTH_MOST;
-use crate::ScanPlan;
 use byte_kit::NoMemory;
 use sbuf_nest::Trail;
 use scan_find::{Matcher, PATTERNS_MOST};
