@@ -9,4 +9,5 @@ pub mod Stands
 pub mod Views
 pub mod Given
 pub mod Levels
+pub mod Made
 pub mod Fitting

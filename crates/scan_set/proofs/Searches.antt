@@ -77,6 +77,13 @@ module _ (bytes : List ℕ) where
       merged-runs event_place (λ place. judge (look_at bytes place) place) (λ place. other (look_at bytes place) place)
       (λ place. stands (look_at bytes place) place) (λ place. stand (look_at bytes place) place) first count
 
+-- what the first search has found is merged into no events
+pub first_listed : {A : Type 0} (event : A → Event) (judge : Around → ℕ → List A) (sb : Sbuf) (events new : List Event) (found : List A) →
+    events ≡ [] → found ≡ owned_marks judge sb → new ≡ merged_events events (map event found) → new ≡ owned_marks (listed event judge) sb
+first_listed {A} event judge sb events new found none more is =
+    is ∙ ap (λ (front : List Event). merged_events front (map event found)) none ∙ ap (map event) more
+    ∙ listed_run sb.bytes.now event judge sb.own_from (sb.own_to - sb.own_from)
+
 -- what one more search has found is merged into the events so far
 pub one_more : {A : Type 0} (event : A → Event) (judge : Judge) (other : Around → ℕ → List A) → Stands judge → Stands (listed event other) →
     (sb : Sbuf) (events new : List Event) (found : List A) →

@@ -10,9 +10,10 @@
 //! `specs/Decoders.antt` which texts are decoded there. `specs/Lawful.antt` says what a plan may ask for.
 //!
 //! What a Base64 text, a run of hexadecimal digits or a run of UTF-16 pairs says is a buffer of its own,
-//! which is scanned like the first one, a level deeper, up to `DEPTH_MOST` levels. So is a place with each
-//! byte XORed with the plan's mask, once on the way from the image. The features of a place come first,
-//! then those in what is decoded there, and those of its view last.
+//! which is scanned like the first one, a level deeper, up to `DEPTH_MOST` levels. A view, where each byte is
+//! XORed with the plan's mask, is judged a level deeper too, and is taken once on the way from the image.
+//! The features of a place itself come first, then those in what is decoded there, and those of its view
+//! last.
 //!
 //! Each search lists the marks or the starts of texts of a run of places, in order of place
 //! (`specs/Marks.antt`, `specs/Decoders.antt`). As events (`specs/Events.antt`) they are merged by place
@@ -34,6 +35,10 @@ pub use plan::{DEPTH_MOST, ScanPlan};
 pub use scan::scan_owned;
 pub use tools::Tools;
 
+#[cfg(test)]
+mod border_tests;
+#[cfg(test)]
+mod level_tests;
 #[cfg(test)]
 mod nesting_tests;
 #[cfg(test)]

@@ -11,11 +11,12 @@ use sbuf_nest::Sbuf;
 use scan_find::Matcher;
 use std::mem;
 
-/// The features of the places that the buffer owns (`owned` of `specs/Here.antt`), in order of place,
-/// and at one place in the order of `Kind`, those in decoded bytes behind them. Each has its path in the
-/// image, and as its context up to `plan.context` bytes of its buffer on either side of it. The patterns
-/// are those that the matchers of the tools were made of. It asks for a plan that is lawful (`IsLawful`).
-/// Its one refusal is want of memory. The tools can be used again, also after that.
+/// The features of the places that the buffer owns (`owned` of `specs/Here.antt`), in order of place. At
+/// one place its own come first, in the order of `Kind`, then those in the bytes that are decoded there, and
+/// those of its view last. Each has its path in the image, and as its context up to `plan.context` bytes
+/// of its buffer on either side of it. The patterns are those that the matchers of the tools were made of.
+/// It asks for a plan that is lawful (`IsLawful`). Its one refusal is want of memory. The tools can be used
+/// again, also after that.
 pub fn scan_owned<M: Matcher>(
     sb: &Sbuf,
     plan: &ScanPlan,

@@ -6,7 +6,7 @@
 //! (8 keywords, and `find1` or `find64` that many), `pattern` (4 patterns, and `pattern1` one), `word`
 //! (words of 6 to 14 bytes), `base64`, `hex` or `utf16` (where such texts begin), which count marks and
 //! starts, or `all`, which counts the features of a scan by every scanner but the one for words, without
-//! keywords and patterns, five levels deep.
+//! keywords and patterns, five levels deep, and `xor`, the same with the XOR view of each buffer.
 #![tactic(auto)]
 
 mod keywords;

@@ -20,6 +20,9 @@ const SCANNERS: u16 = 0x03BF;
 // How many buffers deep decoded bytes are searched.
 const DEPTH: u8 = 5;
 
+// The mask of the XOR view, where it is searched.
+const MASK: u8 = 255;
+
 // How many bytes of context a feature has on either side.
 const CONTEXT_BYTES: u16 = 16;
 
@@ -51,6 +54,8 @@ pub enum Search {
     Utf16,
     /// All that a scan finds, as features with their paths and contexts.
     All,
+    /// The same, in the XOR view of each buffer too.
+    Xor,
 }
 
 impl Search {
@@ -70,8 +75,25 @@ impl Search {
             "hex" => Some(Search::Hex),
             "utf16" => Some(Search::Utf16),
             "all" => Some(Search::All),
+            "xor" => Some(Search::Xor),
             _ => None,
         }
+    }
+}
+
+// The plan of a search for everything, with a mask, or 0 for none.
+fn plan_of(alloc: Global, mask: u8) -> ScanPlan
+    ensures { IsLawful result }
+{
+    ScanPlan {
+        scanners: SCANNERS,
+        depth: DEPTH,
+        mask,
+        word_min: WORD_LEAST,
+        word_max: WORD_MOST,
+        context: CONTEXT_BYTES,
+        keywords: Texts::make(alloc),
+        patterns: Names::make(alloc),
     }
 }
 
@@ -80,6 +102,7 @@ impl Search {
 pub struct Searcher {
     alloc: Global,
     plan: ScanPlan,
+    masked: ScanPlan,
     tools: Tools<WordMatcher>,
     keywords: Vec<Bytes>,
     matchers: Vec<RegexMatcher>,
@@ -87,25 +110,18 @@ pub struct Searcher {
     found: Found,
     starts: Starts,
     ghost lawful: { IsLawful plan },
+    ghost masked_lawful: { IsLawful masked },
 }
 
 impl Searcher {
     /// A searcher that has found nothing yet.
     pub fn make(alloc: Global) -> Result<Searcher, NoMemory> {
-        let plan = ScanPlan {
-            scanners: SCANNERS,
-            depth: DEPTH,
-            mask: 0,
-            word_min: WORD_LEAST,
-            word_max: WORD_MOST,
-            context: CONTEXT_BYTES,
-            keywords: Texts::make(alloc),
-            patterns: Names::make(alloc),
-        };
+        let plan = plan_of(alloc, 0);
         let tools = Tools::make(alloc, &plan, Vec::new(alloc))?;
         Ok(Searcher {
             alloc,
             plan,
+            masked: plan_of(alloc, MASK),
             tools,
             keywords: keywords_of(alloc)?,
             matchers: matchers_of(alloc)?,
@@ -130,6 +146,7 @@ impl Searcher {
             Search::Hex => decode_hex::find_runs(sb, &mut self.starts)?,
             Search::Utf16 => decode_views::find_runs(sb, &mut self.starts)?,
             Search::All => return Ok(scan_owned(sb, &self.plan, &mut self.tools)?.len()),
+            Search::Xor => return Ok(scan_owned(sb, &self.masked, &mut self.tools)?.len()),
         }
         let marks = self.found.marks().len();
         Ok(marks.saturating_add(self.starts.items().len()))

@@ -16,7 +16,7 @@ use Rattle.scan_set.specs.Here.{here, owned}
 use Rattle.scan_set.specs.declared.event.Event.{Event}
 use Rattle.scan_set.proofs.Fitting.{event_fits}
 use Rattle.scan_set.proofs.Images.{owned-none, owned-join, places_owned, one_event_more, length-turned}
-use Rattle.scan_set.proofs.Levels.{run_gives}
+use Rattle.scan_set.proofs.Made.{view_seen, turned_same, sign_made, block_made, owned_more, value_made}
 use Rattle.scan_set.proofs.nest.+nest.Goals as goal
 
 pub add_event-add_sign-requires-2 : goal.add_event-add_sign-requires-2
@@ -49,18 +49,16 @@ add_event-returns-clause-out g t c =
     let patterns = map g.M.Matcher.matches (map g.M.Matcher.reading c.args.run.now.matchers.items) in
     let bytes = c.args.block.now.bytes.now in
     let event = c.args.event.now in
-    let left = c.args.left in
-    let old = c.args.run.now.out.items in
     let turns = c.args.run.now.trail.turns in
+    let place = c.args.block.now.base + event.at in
     let view : c.in-Some.view.now ≡ xored_bytes plan.mask bytes = rw c.in-Some.is at c.requires.view in
     let look : look_at c.child-seen.result.bytes.now event.at ≡ xored plan.mask (look_at bytes event.at) =
-    ap (λ (b : List ℕ). look_at b event.at) (c.child-seen.ensures.bytes ∙ view) ∙ view_look plan.mask bytes event.at in
-    let ways : c.push.new.self.turns ≡ turned turns (c.args.block.now.base + event.at) (Xor plan.mask) =
-    c.push.ensures.turns ∙ ap (λ (place : ℕ). turned turns place (Xor plan.mask)) c.place-place.ensures in
+    view_seen plan.mask bytes _ _ event.at c.child-seen.ensures.bytes view in
+    let ways : c.push.new.self.turns ≡ turned turns place (Xor plan.mask) =
+    turned_same turns _ _ place (Xor plan.mask) c.push.ensures.turns c.place-place.ensures in
     rw c.if-not-event.false
-    (c.in_ok-add_sign.ensures.out
-    ∙ ap (λ (way : List Turn). old ++ sign_features patterns plan (left - 1) way (look_at c.child-seen.result.bytes.now event.at) 0 event.sign) ways
-    ∙ ap (λ (look : Around). old ++ sign_features patterns plan (left - 1) (turned turns (c.args.block.now.base + event.at) (Xor plan.mask)) look 0 event.sign) look)
+    (sign_made patterns plan (c.args.left - 1) c.args.run.now.out.items event.sign (turned turns place (Xor plan.mask)) _
+    (xored plan.mask (look_at bytes event.at)) _ _ c.in_ok-add_sign.ensures.out ways look)
 
 pub scan_block-add_event-requires : goal.scan_block-add_event-requires
 scan_block-add_event-requires g t c κs within =
@@ -105,13 +103,10 @@ scan_block-returns-clause-out g t c =
     let block = c.args.block.now in
     let left = c.args.left in
     let turns = c.args.run.now.trail.turns in
-    let gives = event_features patterns plan left turns block.bytes.now block.base in
-    let old = c.args.run.now.out.items in
     let events : c.as_slice-events.result.now ≡ owned_marks (level_events patterns plan left (has_view plan left turns)) block =
     c.as_slice-events.ensures.value ∙ rw (c.as_mut_slice.ensures.value, c.requires.on) at c.in_ok-list_events.ensures.ok in
-    c.loop-event.invariant.out
-    ∙ ap (λ (events : List Event). old ++ flat_map gives events) (take_all c.loop-event.event-index c.as_slice-events.result.now c.loop-event-test.false ∙ events)
-    ∙ ap (λ (made : List Feature). old ++ made) (run_gives patterns plan left turns block.bytes.now block.base block.own_from (block.own_to - block.own_from))
+    block_made patterns plan left c.args.run.now.out.items turns block c.as_slice-events.result.now c.loop-event.event-index
+    c.loop-event.run.out.items events c.loop-event-test.false c.loop-event.invariant.out
 
 pub scan_level-loop-next-init : goal.scan_level-loop-next-init
 scan_level-loop-next-init g t c =
@@ -131,35 +126,26 @@ pub scan_level-loop-next-preserved : goal.scan_level-loop-next-preserved
 scan_level-loop-next-preserved g t c =
     let patterns = map g.M.Matcher.matches (map g.M.Matcher.reading c.args.run.now.matchers.items) in
     let sb = c.args.sb.now in
-    let plan = c.args.plan.now in
-    let left = c.args.left in
-    let turns = c.args.run.now.trail.turns in
-    let old = c.args.run.now.out.items in
     let inv = c.loop-next.invariant in
     let next = c.loop-next.next in
     let to = c.min-to.result in
     let block = c.of-block.ensures in
     let low : next ≤ to = omega (arith, inv.high) in
-    let more = rw (block.bytes, block.own_from, block.own_to, block.base, inv.same, inv.trail) at c.in_ok-scan_block.ensures.out in
-    let ahead = owned patterns plan left turns sb.bytes.now sb.base sb.own_from (next - sb.own_from) in
-    let this = owned patterns plan left turns sb.bytes.now sb.base next (to - next) in
     record {
       low = omega (arith, inv.low);
       high = omega arith;
       same = c.in_ok-scan_block.ensures.same ∙ inv.same;
       limit = c.in_ok-scan_block.ensures.limit ∙ inv.limit;
       trail = c.in_ok-scan_block.ensures.trail ∙ inv.trail;
-      out = more ∙ ap (λ (made : List Feature). made ++ this) inv.out ∙ append_assoc old ahead this
-          ∙ ap (λ (made : List Feature). old ++ made) (owned-join patterns plan left turns sb.bytes.now sb.base sb.own_from next to inv.low low);
+      out = owned_more patterns c.args.plan.now c.args.left c.args.run.now.out.items c.args.run.now.trail.turns sb.bytes.now sb.base sb.own_from next to
+          c.loop-next.run.out.items _ inv.low low inv.out
+          (rw (block.bytes, block.own_from, block.own_to, block.base, inv.same, inv.trail) at c.in_ok-scan_block.ensures.out);
     }
 
 pub scan_value-returns-clause-out : goal.scan_value-returns-clause-out
 scan_value-returns-clause-out g t c =
-    let plan = c.args.plan.now in
     let patterns = map g.M.Matcher.matches (map g.M.Matcher.reading c.args.run.now.matchers.items) in
-    let value = c.args.value.now in
-    let turns = turned c.args.run.now.trail.turns c.args.place c.args.by in
     let child = c.child.ensures in
-    let all : length value - 0 ≡ length value = omega arith in
-    let made = rw (c.push.ensures.turns, child.bytes, child.own_from, child.own_to, child.base) at c.in_ok-scan_level.ensures.out in
-    (rw all at made) ∙ ap (λ (made : List Feature). c.args.run.now.out.items ++ made) (sym (places_owned patterns plan (c.args.left - 1) turns value))
+    value_made patterns c.args.plan.now (c.args.left - 1) c.args.run.now.out.items (turned c.args.run.now.trail.turns c.args.place c.args.by)
+    c.push.new.self.turns c.args.value.now c.child.result _ c.push.ensures.turns child.bytes child.own_from child.own_to child.base
+    c.in_ok-scan_level.ensures.out

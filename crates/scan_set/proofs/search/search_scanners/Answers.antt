@@ -3,7 +3,7 @@ use Rattle.sbuf_nest.specs.Marks.{owned_marks}
 use Rattle.scan_set.specs.Events.{own_event, merged_events, plain_events}
 use Rattle.scan_set.specs.Marks.{urls_at, packets_at, execs_at, given_at, words_at}
 use Rattle.scan_set.specs.declared.event.Event.{Event}
-use Rattle.scan_set.proofs.Searches.{listed, listed_run, both, stands_both, one_more, alike}
+use Rattle.scan_set.proofs.Searches.{listed, first_listed, both, stands_both, one_more, alike}
 use Rattle.scan_set.proofs.Stands.{urls_stand, packets_stand, execs_stand, given_stand, words_stand, scanners_alike}
 use Rattle.scan_set.proofs.search.search_scanners.Goals as goal
 
@@ -20,9 +20,7 @@ returns-clause-ok g c =
     let stand_three = stands_both two (listed own_event (execs_at plan)) stand_two (execs_stand patterns plan) in
     let stand_four = stands_both three (listed own_event (given_at patterns plan)) stand_three (given_stand patterns plan) in
     let first : c.merge.new.self.items.items ≡ owned_marks one block =
-    c.in_ok-merge.ensures ∙ ap (λ (front : List Event). merged_events front (map own_event c.marks.result.now)) c.clear.ensures.items
-    ∙ ap (map own_event) (c.marks.ensures ∙ c.in_ok-search_urls.ensures)
-    ∙ listed_run block.bytes.now own_event (urls_at plan) block.own_from (block.own_to - block.own_from) in
+    first_listed own_event (urls_at plan) block _ _ _ c.clear.ensures.items (c.marks.ensures ∙ c.in_ok-search_urls.ensures) c.in_ok-merge.ensures in
     let second = one_more own_event one (packets_at plan) (urls_stand patterns plan) (packets_stand patterns plan) block _ _ _ first (c.marks-2.ensures ∙ c.in_ok-search_packets.ensures) c.in_ok-merge-2.ensures in
     let third = one_more own_event two (execs_at plan) stand_two (execs_stand patterns plan) block _ _ _ second (c.marks-3.ensures ∙ c.in_ok-search_execs.ensures) c.in_ok-merge-3.ensures in
     let fourth = one_more own_event three (given_at patterns plan) stand_three (given_stand patterns plan) block _ _ _ third (c.marks-4.ensures ∙ c.in_ok-search_given.ensures.ok) c.in_ok-merge-4.ensures in
