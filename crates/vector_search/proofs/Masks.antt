@@ -1,14 +1,16 @@
 -- What the bits of a mask say of its places.
-use Rattle.std.proofs.Common.{◌≡◌, ◌≢◌, ◌∙◌, ℕ, suc, ◌+◌, ◌-◌, ◌*◌, ◌<◌, ◌≤◌, Bool, true, false, not, cond, List, [], ◌∷◌, map, length, bit_or, refl, sym, ap, subst, inl, inr, arith, IsTrue, nat_eq, eqb-true}
+use Rattle.std.proofs.Common.{◌≡◌, ◌≢◌, ◌∙◌, ℕ, zero, suc, ◌+◌, ◌-◌, ◌*◌, ◌/◌, ◌^◌, ◌<◌, ◌≤◌, Bool, true, false, not, cond, List, [], ◌∷◌, map, length, min, bit_or, refl, sym, ap, subst, inl, inr, arith, IsTrue, nat_eq, eqb-true}
 use Rattle.std.specs.List.{range_with_len, prefix_len}
 use Rattle.std.proofs.lemmas.Bool.{cases_lt, not-true, not-false}
 use Rattle.std.proofs.lemmas.List.FromFn.{length-range_with_len, get_or-range_with_len}
 use Rattle.std.proofs.lemmas.List.Sums.{prefix_len_passes, prefix_len_stops, prefix_len-le-length}
-use Rattle.std.proofs.lemmas.Nat.{and_le_l, and_le_r}
+use Rattle.std.proofs.Math.Nat.{div-one}
+use Rattle.std.proofs.lemmas.Nat.{and_le_l, and_le_r, div-mul-add}
 use Rattle.std.proofs.lemmas.Simd.{leading_from_mask_l, trailing_mask_l}
 use lib.Bits.{or_add_and}
 use lib.Count.{count_trailing_zeros}
 use lib.Lanes.{mask_l}
+use lib.Pow.{shr-shr}
 use Rattle.vector_search.specs.Places.{mask_of, NoneIn, IsNext}
 
 -- none passes up to a place, and none from there on
@@ -106,3 +108,43 @@ pub none_to : (test : ℕ → Bool) (first at marks : ℕ) → NoneIn test first
     marks ≡ mask_of test at 16 → marks ≡ 0 → NoneIn test first (at + 16)
 none_to test first at marks none is empty =
     none_further test first at (at + 16) none (none_marked test at 16 (sym is ∙ empty))
+
+-- the bits of a mask from a later place on are a mask of the places from there on
+mask_behind : (test : ℕ → Bool) (skip first count : ℕ) → skip ≤ count → mask_of test first count / 2 ^ skip ≡ mask_of test (first + skip) (count - skip)
+unfolding mask_of
+mask_behind test zero first count _ =
+    div-one (mask_of test first count) ∙ ap (λ at. mask_of test at count) (omega arith) ∙ ap (λ few. mask_of test (first + 0) few) (omega arith)
+mask_behind test (suc skip) first zero within = absurd (omega (arith, within))
+mask_behind test (suc skip) first (suc count) within =
+    let rest = mask_l (map test (range_with_len (first + 1) count)) in
+    let bit : ℕ = cond (test first) 1 0 in
+    let low : bit < 2 = elim (test first) as (λ b. cond b 1 0 < 2) [ true ↦ omega arith | false ↦ omega arith ] in
+    let halved : (bit + 2 * rest) / 2 ≡ rest = ap (λ n. n / 2) (omega arith) ∙ div-mul-add rest 2 bit low in
+    let more : suc skip ≡ 1 + skip = omega arith in
+    let place : first + 1 + skip ≡ first + suc skip = omega arith in
+    let few : count - skip ≡ suc count - suc skip = omega arith in
+    ap (λ k. (bit + 2 * rest) / 2 ^ k) more ∙ sym (shr-shr (bit + 2 * rest) 1 skip) ∙ ap (λ n. n / 2 ^ skip) halved ∙ mask_behind test skip (first + 1) count (omega (arith, within))
+    ∙ ap (λ at. mask_of test at (count - skip)) place ∙ ap (mask_of test (first + suc skip)) few
+
+-- a mask that begins so many places ahead of the first that is asked for
+module _ (test : ℕ → Bool) (first skip mask : ℕ) (within : skip < 16) (is : mask ≡ mask_of test first 16) where
+  marks : ℕ
+  marks = mask / 2 ^ skip
+
+  shown : marks ≡ mask_of test (first + skip) (16 - skip)
+  unfolding marks
+  shown = ap (λ n. n / 2 ^ skip) is ∙ mask_behind test skip first 16 (omega (arith, within))
+
+  -- none of its places from there on passes
+  pub last_empty : (at end : ℕ) → at ≡ first + skip → end ≤ first + 16 → mask / 2 ^ skip ≡ 0 → NoneIn test at end
+  unfolding marks
+  last_empty at end begins ends empty place low high =
+      none_marked test (first + skip) (16 - skip) (sym shown ∙ empty) place (omega (arith, begins, low)) (omega (arith, within, ends, high))
+
+  -- one passes: none ahead of the first that does
+  pub last_shown : (at end : ℕ) → at ≡ first + skip → mask / 2 ^ skip ≢ 0 → NoneIn test at (min (at + count_trailing_zeros 64 (mask / 2 ^ skip)) end)
+  unfolding marks
+  last_shown at end begins some place low high =
+      let found = first_marked test (first + skip) (16 - skip) (omega arith) (omega (arith, shown, some)) in
+      let same = ap (count_trailing_zeros 64) shown in
+      found.2 place (omega (arith, begins, low)) (omega (arith, begins, same, high))

@@ -1,9 +1,10 @@
 // The search for the next place that passes a test.
 //
 // Where little passes, a step looks at four masks and branches once: memory is the limit, at about 5
-// GB/s of one processor, and in cache it is twice as fast. Behind these steps come masks one by one,
-// then place by place those that are too few for a mask, or too near to the end of the bytes. The worst
-// bytes are those where each place passes: a call for each of them.
+// GB/s of one processor, and in cache it is twice as fast. Behind these steps come masks one by one; the
+// places that are too few for a mask have one that begins ahead of them, and so do short bytes behind
+// their first sixteen. Place by place go those that are too near to the end of the bytes. The worst bytes
+// are those where each place passes: a call for each of them.
 ghost use Rattle.std.specs.Prelude.{◌≡◌, ◌+◌, ◌≤◌, length, IsTrue};
 ghost use Rattle.vector_search.specs.Places.{NoneIn, IsNext};
 
@@ -33,7 +34,7 @@ pub fn next_place<T: PlaceTest>(test: &T, bytes: &[u8], from: usize, to: usize) 
         }
         at += LANES;
     }
-    for place in at..to {
+    for place in past_last_mask(test, bytes, at, to)..to {
         if test.passes_at(bytes, place) {
             return place;
         }
@@ -50,4 +51,30 @@ fn is_quiet<T: PlaceTest>(test: &T, bytes: &[u8], at: usize) -> bool
     let low = test.mask(bytes, at) | test.mask(bytes, at + LANES);
     let high = test.mask(bytes, at + 2 * LANES) | test.mask(bytes, at + 3 * LANES);
     low | high == 0
+}
+
+// A place from `at` up to `to` ahead of which, from `at` on, none passes, by the last mask that the bytes
+// have room for. It may begin ahead of `at`.
+#[inline(always)]
+fn past_last_mask<T: PlaceTest>(test: &T, bytes: &[u8], at: usize, to: usize) -> usize
+    requires ordered { at ≤ to }
+    requires within { to ≤ length bytes.now }
+    ensures low { at ≤ result }
+    ensures high { result ≤ to }
+    ensures none { NoneIn (T.passes test.now bytes.now) at result }
+{
+    let length = bytes.len();
+    if at == to || length < LANES || length - LANES < T::REACH {
+        return at;
+    }
+    let first = at.min(length - LANES - T::REACH);
+    if at - first >= LANES {
+        return at;
+    }
+    let end = (first + LANES).min(to);
+    let marks = test.mask(bytes, first) >> (at - first);
+    if marks == 0 {
+        return end;
+    }
+    (at + marks.trailing_zeros() as usize).min(end)
 }
