@@ -1,9 +1,9 @@
--- Runs of hexadecimal digits: how far they go, and that the crate `hex` decodes them as the definition does.
-use Rattle.std.proofs.Common.{◌≡◌, ◌∙◌, ℕ, suc, ◌+◌, ◌*◌, ◌/◌, ◌%◌, ◌<◌, ◌≤◌, Bool, true, false, ◌&&◌, ◌==◌, cond, List, [], ◌∷◌, length, take, min, Option, Some, None, unwrap_or, Ok, refl, sym, ap, arith}
+-- Runs of hexadecimal digits: how far they go, and what they say.
+use Rattle.std.proofs.Common.{◌≡◌, ◌∙◌, ℕ, suc, ◌+◌, ◌*◌, ◌/◌, ◌%◌, ◌<◌, ◌≤◌, Bool, true, false, not, ◌&&◌, ◌||◌, ◌==◌, cond, get_or, List, [], ◌∷◌, length, take, min, Option, Some, None, refl, sym, ap, arith}
 use Rattle.std.specs.List.{prefix_len, AllPass}
-use Rattle.std.specs.Prelude.{nat_le, nat_lt, option_map, if◌then◌else◌}
+use Rattle.std.specs.Prelude.{nat_le, nat_lt, option_map, slice_index}
 use Rattle.std.specs.Option.{option_map_or}
-use Rattle.std.proofs.lemmas.Bool.{agree_below_at, eqb-true, and_parts}
+use Rattle.std.proofs.lemmas.Bool.{agree_below_at, eqb-true, ltb-true, and_parts}
 use Rattle.std.proofs.lemmas.Bool.Decides.{nat_tests}
 use Rattle.std.proofs.lemmas.List.{get_or-take, length-take}
 use Rattle.std.proofs.lemmas.List.Sums.{prefix_len_passes, prefix_len-le-length}
@@ -14,11 +14,10 @@ use Rattle.sbuf_nest.specs.Marks.{NoneFrom}
 use Rattle.sbuf_nest.specs.Runs.{begins_row, NoRowFrom}
 use Rattle.sbuf_nest.specs.declared.mark.Extent.{Extent}
 use Rattle.sbuf_nest.proofs.ClassRuns.{prefix_len-take}
-use Rattle.hex.specs.Hex.{hex_digit_value, pair_value, decode_pairs, decode_sized}
-use Rattle.hex.proofs.Pairs.{cons_byte, decode_pairs-ok_pair}
 use Rattle.decode_hex.specs.Hex.{paired, hex_extent, hex_run, hex_value, digit_number, IsText}
 use Rattle.decode_hex.specs.Starts.{hex_starts}
 use Rattle.decode_hex.specs.declared.TheConstants.{DIGITS_LEAST, DIGITS_MOST}
+use Rattle.decode_hex.specs.declared.value.TheConstants.{NUMBERS}
 
 -- ---- the run of a place
 
@@ -74,50 +73,45 @@ module _ (after : List ℕ) (extent : Extent) where
 
 -- ---- what digits say
 
--- the test of one digit, which computes
-abbrev reads_alike : ℕ → Bool
-reads_alike digit = if hex_class digit then (unwrap_or (hex_digit_value digit) 99 == digit_number digit) && nat_lt (digit_number digit) 99 else true
+-- the table has the number of each digit
+numbered : ℕ → Bool
+numbered byte = not (hex_class byte) || ((slice_index NUMBERS byte == digit_number byte) && nat_lt (digit_number byte) 16)
 
-some_from : (o : Option ℕ) (n : ℕ) → ((unwrap_or o 99 == n) && nat_lt n 99) ≡ true → o ≡ Some n
-some_from (Some v) n is = ap Some (eqb-true v n (and_parts _ _ is).0)
-some_from None n is =
-    let parts = and_parts (99 == n) (nat_lt n 99) is in absurd (grind (arith, nat_tests, eqb-true 99 n parts.0, parts.1))
+all_numbered : (byte : ℕ) → byte < 256 → numbered byte ≡ true
+unfolding numbered hex_class
+all_numbered byte small = agree_below_at numbered (λ _. true) 256 byte refl small
 
-small_digit : (digit : ℕ) → hex_class digit ≡ true → digit < 256
-unfolding hex_class
-small_digit digit is = grind (arith, nat_tests)
+-- a digit's number, and that it is below sixteen
+pub digit_read : (digit : ℕ) → digit < 256 → hex_class digit ≡ true → (slice_index NUMBERS digit ≡ digit_number digit) × (digit_number digit < 16)
+unfolding numbered
+digit_read digit small is =
+    let test : ((slice_index NUMBERS digit == digit_number digit) && nat_lt (digit_number digit) 16) ≡ true =
+    rw is at (all_numbered digit small) in
+    let parts = and_parts _ _ test in (eqb-true _ _ parts.0, ltb-true _ _ parts.1)
 
-alike : (digit : ℕ) → digit < 256 → reads_alike digit ≡ true
-unfolding hex_class
-alike digit small = agree_below_at reads_alike (λ _. true) 256 digit refl small
+-- the byte that two digits give
+abbrev pub pair_value : List ℕ → ℕ → ℕ
+pair_value digits at = 16 * digit_number (slice_index digits (2 * at)) + digit_number (slice_index digits (2 * at + 1))
 
--- a digit's number is what the crate `hex` reads
-digit_read : (digit : ℕ) → hex_class digit ≡ true → hex_digit_value digit ≡ Some (digit_number digit)
-digit_read digit is = some_from (hex_digit_value digit) (digit_number digit) (rw is at (alike digit (small_digit digit is)))
+later_pair : (high low at : ℕ) (digits : List ℕ) → pair_value (high ∷ low ∷ digits) (suc at) ≡ pair_value digits at
+later_pair high low at digits =
+    let upper : 2 * suc at ≡ suc (suc (2 * at)) = omega arith in
+    let lower : 2 * suc at + 1 ≡ suc (suc (2 * at + 1)) = omega arith in
+    let number = λ (k : ℕ). digit_number (slice_index (high ∷ low ∷ digits) k) in
+    ap (λ k. 16 * number k + number (2 * suc at + 1)) upper ∙ ap (λ k. 16 * number (suc (suc (2 * at))) + number k) lower
 
-pair_reads : (high low at h l : ℕ) → hex_digit_value high ≡ Some h → hex_digit_value low ≡ Some l → pair_value high low at ≡ Ok (16 * h + l)
-pair_reads high low at h l a b = rw (a, b) (ap Ok (omega arith))
-
-none_read : (at : ℕ) → decode_pairs at [] ≡ Ok []
-unfolding decode_pairs
-none_read at = refl
-
--- pairs of digits say what the definition says
-pairs_read : (digits : List ℕ) (at : ℕ) → AllPass hex_class digits → length digits % 2 ≡ 0 → decode_pairs at digits ≡ Ok (hex_value digits)
+-- bytes of which each one is that of its two digits are their value
+pub value_filled : (digits value : List ℕ) → length digits ≡ 2 * length value →
+    ((at : ℕ) → at < length value → get_or value at 0 ≡ pair_value digits at) → value ≡ hex_value digits
 unfolding hex_value
-pairs_read [] at are even = none_read at
-pairs_read (one ∷ []) at are even = absurd (omega (arith, even))
-pairs_read (high ∷ low ∷ rest) at are even =
-    let pair = pair_reads high low at (digit_number high) (digit_number low) (digit_read high (are 0 0 (omega arith))) (digit_read low (are 1 0 (omega arith))) in
-    decode_pairs-ok_pair at high low _ rest pair
-    ∙ ap (cons_byte (16 * digit_number high + digit_number low)) (pairs_read rest (at + 2) (λ k d within. are (suc (suc k)) d (omega arith)) (omega (arith, even)))
-
-pub digits_read : (digits : List ℕ) (count : ℕ) → AllPass hex_class digits → length digits ≡ 2 * count → decode_sized digits count ≡ Ok (hex_value digits)
-digits_read digits count are room =
-    let even : length digits % 2 ≡ 0 = omega (arith, room) in
-    let odd : (length digits % 2 == 1) ≡ false = rw even refl in
-    let half : (length digits / 2 == count) ≡ true = grind (arith, nat_tests, room) in
-    rw (odd, half) (pairs_read digits 0 are even)
+value_filled [] [] room are = refl
+value_filled (high ∷ digits) [] room are = absurd (omega (arith, room))
+value_filled [] (byte ∷ value) room are = absurd (omega (arith, room))
+value_filled (high ∷ []) (byte ∷ value) room are = absurd (omega (arith, room))
+value_filled (high ∷ low ∷ digits) (byte ∷ value) room are =
+    let rest : value ≡ hex_value digits =
+    value_filled digits value (omega (arith, room)) (λ at below. are (suc at) (omega (arith, below)) ∙ later_pair high low at digits) in
+    cc (are 0 (omega arith), rest)
 
 -- ---- where no run begins
 

@@ -1,8 +1,8 @@
 // The bytes that a run of hexadecimal digits stands for.
-ghost use Rattle.std.specs.Prelude.{◌≡◌, ◌*◌, ◌%◌, ◌/◌, [], length, take, OnOk, OnErr};
+ghost use Rattle.std.specs.Prelude.{◌≡◌, ◌*◌, ◌<◌, [], length, take, IsTrue, OnOk, OnErr};
 ghost use Rattle.std.specs.List.{AllPass};
 ghost use Rattle.byte_kit.specs.Classes.{hex_class};
-ghost use Rattle.decode_hex.specs.Hex.{hex_value, IsText};
+ghost use Rattle.decode_hex.specs.Hex.{hex_value, digit_number, IsText};
 
 use byte_kit::NoMemory;
 use sbuf_nest::Extent;
@@ -28,8 +28,37 @@ fn decode_into(digits: &[u8], into: &mut [u8])
     requires room { length digits.now ≡ 2 * length into.old }
     ensures { into.new ≡ hex_value digits.now }
 {
-    match hex::decode_to_slice(digits, into) {
-        Ok(()) => {}
-        Err(_) => unreachable!(),
+    for (at, byte) in into.iter_mut().enumerate() {
+        *byte = 16 * digit_number(digits[2 * at]) + digit_number(digits[2 * at + 1]);
     }
 }
+
+// The number of a digit.
+#[inline(always)]
+fn digit_number(digit: u8) -> u8
+    requires { IsTrue (hex_class digit) }
+    ensures number { result ≡ digit_number digit }
+    ensures below { result < 16 }
+{
+    NUMBERS[digit as usize]
+}
+
+// Each digit's number at the place that is its byte; no other entry is read.
+static NUMBERS: [u8; 256] = [
+    0, 0, 0, 0, 0, 0, 0, 0, 0, 0, 0, 0, 0, 0, 0, 0,
+    0, 0, 0, 0, 0, 0, 0, 0, 0, 0, 0, 0, 0, 0, 0, 0,
+    0, 0, 0, 0, 0, 0, 0, 0, 0, 0, 0, 0, 0, 0, 0, 0,
+    0, 1, 2, 3, 4, 5, 6, 7, 8, 9, 0, 0, 0, 0, 0, 0,
+    0, 10, 11, 12, 13, 14, 15, 0, 0, 0, 0, 0, 0, 0, 0, 0,
+    0, 0, 0, 0, 0, 0, 0, 0, 0, 0, 0, 0, 0, 0, 0, 0,
+    0, 10, 11, 12, 13, 14, 15, 0, 0, 0, 0, 0, 0, 0, 0, 0,
+    0, 0, 0, 0, 0, 0, 0, 0, 0, 0, 0, 0, 0, 0, 0, 0,
+    0, 0, 0, 0, 0, 0, 0, 0, 0, 0, 0, 0, 0, 0, 0, 0,
+    0, 0, 0, 0, 0, 0, 0, 0, 0, 0, 0, 0, 0, 0, 0, 0,
+    0, 0, 0, 0, 0, 0, 0, 0, 0, 0, 0, 0, 0, 0, 0, 0,
+    0, 0, 0, 0, 0, 0, 0, 0, 0, 0, 0, 0, 0, 0, 0, 0,
+    0, 0, 0, 0, 0, 0, 0, 0, 0, 0, 0, 0, 0, 0, 0, 0,
+    0, 0, 0, 0, 0, 0, 0, 0, 0, 0, 0, 0, 0, 0, 0, 0,
+    0, 0, 0, 0, 0, 0, 0, 0, 0, 0, 0, 0, 0, 0, 0, 0,
+    0, 0, 0, 0, 0, 0, 0, 0, 0, 0, 0, 0, 0, 0, 0, 0,
+];

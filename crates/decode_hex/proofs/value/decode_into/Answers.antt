@@ -1,13 +1,9 @@
-use Rattle.decode_hex.proofs.Digits.{digits_read}
+use Rattle.std.proofs.Common.{arith}
+use Rattle.decode_hex.proofs.Digits.{value_filled}
 use Rattle.decode_hex.proofs.value.decode_into.Goals as goal
-
-pub unreachable-requires : goal.unreachable-requires
-unreachable-requires c =
-    let good = digits_read c.args.digits.now _ c.requires.digits c.requires.room in
-    let both = rw good at c.decode_to_slice.ensures.value in
-    cc (both.0, c.in-Err.is)
 
 pub returns : goal.returns
 returns c =
-    let good = digits_read c.args.digits.now _ c.requires.digits c.requires.room in
-    let both = rw good at c.decode_to_slice.ensures.value in both.1
+    let at = c.loop-at in
+    value_filled c.args.digits.now at.into (omega (arith, c.requires.room, at.auto.into))
+    (λ k below. at.invariant k (omega (arith, below, c.loop-at-test.false, at.auto.into, at.auto.at-end)))
