@@ -1,17 +1,12 @@
--- Groups of four letters, and what the standard engine decodes of them.
-use Rattle.std.proofs.Common.{◌≡◌, ◌∙◌, ℕ, zero, suc, ◌+◌, ◌*◌, ◌/◌, ◌%◌, ◌<◌, ◌≤◌, ◌==◌, ◌&&◌, ◌||◌, not, nat_lt, Bool, true, List, [], ◌∷◌, ◌++◌, length, take, slice_index, refl, sym, ap, arith, flat_map, replicate, subst, Result, Ok, Err}
+-- Groups of four letters, and the three bytes that each of them gives.
+use Rattle.std.proofs.Common.{◌≡◌, ◌∙◌, ℕ, ◌+◌, ◌*◌, ◌/◌, ◌%◌, ◌<◌, ◌≤◌, ◌==◌, ◌&&◌, ◌||◌, not, nat_lt, Bool, true, List, [], ◌∷◌, ◌++◌, length, take, drop, set, get_or, slice_index, refl, sym, ap, arith, flat_map}
 use Rattle.std.specs.List.{AllPass}
-use Rattle.std.proofs.lemmas.Bool.{and_parts, eqb-true, ltb-true}
+use Rattle.std.proofs.lemmas.Bool.{agree_below_at, and_parts, eqb-true, ltb-true}
 use Rattle.std.proofs.lemmas.Bool.Decides.{nat_tests}
-use Rattle.std.proofs.lemmas.List.{append-nil, length-take, take_all}
-use Rattle.base64.specs.Engines.{standard}
-use Rattle.base64.specs.GeneralPurpose.{decode_of, encode_of, engine_symbols, IsBytes}
-use Rattle.base64.specs.Rfc4648.{encode_symbols, padding_len}
-use Rattle.base64.specs.Tables.{all_below}
-use Rattle.base64.proofs.Tables.{all_below_at}
-use Rattle.base64.proofs.EngineFacts.{decode_of-encode_of}
+use Rattle.std.proofs.lemmas.List.{append-nil, append_assoc, drop_all, drop_more, get_or-set_same, length-set, take_all, take_more, take-set-le}
 use Rattle.byte_kit.specs.Classes.{base64_class}
 use Rattle.decode_base64.specs.Base64.{letter_number, six_bits, bytes_of}
+use Rattle.decode_base64.specs.declared.value.TheConstants.{NUMBERS}
 
 -- the bytes of letters
 abbrev pub value_of : List ℕ → List ℕ
@@ -19,22 +14,23 @@ value_of letters = bytes_of (flat_map six_bits letters)
 
 -- ---- the number of a letter
 
+-- the table has the number of each letter
 is_numbered : ℕ → Bool
-is_numbered x = not (base64_class x) || (nat_lt (letter_number x) 64 && (slice_index (engine_symbols standard) (letter_number x) == x))
+is_numbered x = not (base64_class x) || (nat_lt (letter_number x) 64 && (slice_index NUMBERS x == letter_number x))
 
-all_numbered : all_below is_numbered 128 ≡ true
+all_numbered : (x : ℕ) → x < 256 → is_numbered x ≡ true
 unfolding base64_class is_numbered
-all_numbered = refl
+all_numbered x small = agree_below_at is_numbered (λ _. true) 256 x refl small
 
-small : (x : ℕ) → base64_class x ≡ true → x < 128
+small : (x : ℕ) → base64_class x ≡ true → x < 256
 unfolding base64_class
 small x is = grind (arith, nat_tests)
 
-numbered : (x : ℕ) → base64_class x ≡ true → (letter_number x < 64) × (slice_index (engine_symbols standard) (letter_number x) ≡ x)
+pub numbered : (x : ℕ) → base64_class x ≡ true → (letter_number x < 64) × (slice_index NUMBERS x ≡ letter_number x)
 unfolding is_numbered
 numbered x is =
-    let test : is_numbered x ≡ true = all_below_at is_numbered 128 x all_numbered (small x is) in
-    let both : (nat_lt (letter_number x) 64 && (slice_index (engine_symbols standard) (letter_number x) == x)) ≡ true = rw is at test in
+    let test = all_numbered x (small x is) in
+    let both : (nat_lt (letter_number x) 64 && (slice_index NUMBERS x == letter_number x)) ≡ true = rw is at test in
     let parts = and_parts _ _ both in
     (ltb-true _ _ parts.0, eqb-true _ _ parts.1)
 
@@ -46,9 +42,9 @@ make_up n =
     && (2 * (n / 32 % 2) + n / 16 % 2 == n / 16)
     && (8 * (n / 32 % 2) + 4 * (n / 16 % 2) + 2 * (n / 8 % 2) + n / 4 % 2 == n / 4)
 
-all_made_up : all_below make_up 64 ≡ true
+all_made_up : (n : ℕ) → n < 64 → make_up n ≡ true
 unfolding make_up
-all_made_up = refl
+all_made_up n below = agree_below_at make_up (λ _. true) 64 n refl below
 
 -- the six bits make up the number, the upper two and the upper four what is left without the others
 record SixBits (n a b c d e f : ℕ) : Type 0 where
@@ -59,7 +55,7 @@ record SixBits (n a b c d e f : ℕ) : Type 0 where
 made_up : (n : ℕ) → n < 64 → SixBits n (n / 32 % 2) (n / 16 % 2) (n / 8 % 2) (n / 4 % 2) (n / 2 % 2) (n % 2)
 unfolding make_up
 made_up n below =
-    let parts = and_parts _ _ (all_below_at make_up 64 n all_made_up below) in
+    let parts = and_parts _ _ (all_made_up n below) in
     let front = and_parts _ _ parts.0 in
     record { all = eqb-true _ _ front.0; two = eqb-true _ _ front.1; four = eqb-true _ _ parts.1 }
 
@@ -78,20 +74,6 @@ module _ (n m a b c d e f g h i j k l : ℕ) (first : SixBits n a b c d e f) (se
   octet_2 : 128 * e + 64 * f + 32 * g + 16 * h + 8 * i + 4 * j + 2 * k + l ≡ 64 * (n % 4) + m
   octet_2 = omega (arith, first.all, first.four, second.all)
 
--- the six bits that stand in the octets again
-module _ (m0 m1 m2 m3 : ℕ) (first : m0 < 64) (second : m1 < 64) (third : m2 < 64) (fourth : m3 < 64) where
-  part_0 : (4 * m0 + m1 / 16) / 4 ≡ m0
-  part_0 = omega (arith, second)
-
-  part_1 : (4 * m0 + m1 / 16) % 4 * 16 + (16 * (m1 % 16) + m2 / 4) / 16 ≡ m1
-  part_1 = omega (arith, second, third)
-
-  part_2 : (16 * (m1 % 16) + m2 / 4) % 16 * 4 + (64 * (m2 % 4) + m3) / 64 ≡ m2
-  part_2 = omega (arith, third, fourth)
-
-  part_3 : (64 * (m2 % 4) + m3) % 64 ≡ m3
-  part_3 = omega (arith, fourth)
-
 module _ (a b c d : ℕ) (rest : List ℕ) (first : base64_class a ≡ true) (second : base64_class b ≡ true) (third : base64_class c ≡ true) (fourth : base64_class d ≡ true) where
   pub octets : value_of (a ∷ b ∷ c ∷ d ∷ rest)
       ≡ (4 * letter_number a + letter_number b / 16) ∷ (16 * (letter_number b % 16) + letter_number c / 4) ∷ (64 * (letter_number c % 4) + letter_number d) ∷ value_of rest
@@ -102,77 +84,73 @@ module _ (a b c d : ℕ) (rest : List ℕ) (first : base64_class a ≡ true) (se
       let md = made_up (letter_number d) (numbered d fourth).0 in
       cons_three _ _ _ _ _ _ _ _ (octet_0 _ _ _ _ _ _ _ _ _ _ _ _ _ _ ma mb) (octet_1 _ _ _ _ _ _ _ _ _ _ _ _ _ _ mb mc) (octet_2 _ _ _ _ _ _ _ _ _ _ _ _ _ _ mc md) refl
 
--- ---- the standard engine
+-- ---- group by group
 
-cons_four : (p q r s x y z w : ℕ) (xs ys : List ℕ) → p ≡ x → q ≡ y → r ≡ z → s ≡ w → xs ≡ ys → p ∷ q ∷ r ∷ s ∷ xs ≡ x ∷ y ∷ z ∷ w ∷ ys
-cons_four p q r s x y z w xs ys e f g h i = cc (e, f, g, h, i)
+-- the letters of the groups from one on are its four, and those of the groups behind it
+drop_group : (letters : List ℕ) (at : ℕ) → at + 4 ≤ length letters →
+    drop at letters ≡ get_or letters at 0 ∷ get_or letters (at + 1) 0 ∷ get_or letters (at + 2) 0 ∷ get_or letters (at + 3) 0 ∷ drop (at + 4) letters
+drop_group letters at within =
+    let next : (k : ℕ) → k < 4 → drop (at + k) letters ≡ get_or letters (at + k) 0 ∷ drop (at + (k + 1)) letters =
+    λ k below. drop_more letters (at + k) 0 (omega (arith, within)) ∙ ap (λ i. get_or letters (at + k) 0 ∷ drop i letters) (omega arith) in
+    let none : drop at letters ≡ drop (at + 0) letters = ap (λ i. drop i letters) (omega arith) in
+    none ∙ next 0 (omega arith)
+    ∙ ap (λ rest. get_or letters (at + 0) 0 ∷ rest) (next 1 (omega arith) ∙ ap (λ rest. get_or letters (at + 1) 0 ∷ rest) (next 2 (omega arith) ∙ ap (λ rest. get_or letters (at + 2) 0 ∷ rest) (next 3 (omega arith))))
+    ∙ ap (λ i. get_or letters i 0 ∷ get_or letters (at + 1) 0 ∷ get_or letters (at + 2) 0 ∷ get_or letters (at + 3) 0 ∷ drop (at + 4) letters) (omega arith)
 
--- the letters behind the first four are letters
-pub behind_four : (a b c d : ℕ) (rest : List ℕ) → AllPass base64_class (a ∷ b ∷ c ∷ d ∷ rest) → AllPass base64_class rest
-behind_four a b c d rest all = λ k e lt. all (suc (suc (suc (suc k)))) e (omega (arith, lt))
+-- a byte written behind those taken
+written : (xs : List ℕ) (k x : ℕ) → k < length xs → take (k + 1) (set xs k x) ≡ take k xs ++ x ∷ []
+written xs k x within =
+    take_more (set xs k x) k 0 (omega (arith, within, length-set xs k x))
+    ∙ ap (λ front. front ++ get_or (set xs k x) k 0 ∷ []) (take-set-le k xs k x (omega arith))
+    ∙ ap (λ y. take k xs ++ y ∷ []) (get_or-set_same xs k x 0 within)
 
--- what the engine encodes of the bytes is the letters
-encodes : (s : List ℕ) → AllPass base64_class s → length s % 4 ≡ 0 → encode_symbols (engine_symbols standard) (value_of s) ≡ s
-unfolding encode_symbols
-encodes [] all whole = refl
-encodes (a ∷ []) all whole = absurd (omega (arith, whole))
-encodes (a ∷ b ∷ []) all whole = absurd (omega (arith, whole))
-encodes (a ∷ b ∷ c ∷ []) all whole = absurd (omega (arith, whole))
-encodes (a ∷ b ∷ c ∷ d ∷ rest) all whole =
-    let t = engine_symbols standard in
-    let pa : base64_class a ≡ true = all 0 0 (omega arith) in
-    let pb : base64_class b ≡ true = all 1 0 (omega arith) in
-    let pc : base64_class c ≡ true = all 2 0 (omega arith) in
-    let pd : base64_class d ≡ true = all 3 0 (omega arith) in
-    let na = numbered a pa in
-    let nb = numbered b pb in
-    let nc = numbered c pc in
-    let nd = numbered d pd in
-    ap (encode_symbols t) (octets a b c d rest pa pb pc pd)
-    ∙ cons_four _ _ _ _ a b c d _ rest
-    (ap (slice_index t) (part_0 (letter_number a) (letter_number b) (letter_number c) (letter_number d) na.0 nb.0 nc.0 nd.0) ∙ na.1)
-    (ap (slice_index t) (part_1 (letter_number a) (letter_number b) (letter_number c) (letter_number d) na.0 nb.0 nc.0 nd.0) ∙ nb.1)
-    (ap (slice_index t) (part_2 (letter_number a) (letter_number b) (letter_number c) (letter_number d) na.0 nb.0 nc.0 nd.0) ∙ nc.1)
-    (ap (slice_index t) (part_3 (letter_number a) (letter_number b) (letter_number c) (letter_number d) na.0 nb.0 nc.0 nd.0) ∙ nd.1)
-    (encodes rest (behind_four a b c d rest all) (omega (arith, whole)))
+-- three bytes, one behind the other
+three_written : (xs : List ℕ) (k x y z : ℕ) → k + 3 ≤ length xs →
+    take (k + 3) (set (set (set xs k x) (k + 1) y) (k + 2) z) ≡ take k xs ++ x ∷ y ∷ z ∷ []
+three_written xs k x y z within =
+    let one = set xs k x in
+    let two = set one (k + 1) y in
+    let long_one = length-set xs k x in
+    let long_two = length-set one (k + 1) y in
+    let first : k + 1 + 1 ≡ k + 2 = omega arith in
+    let second : k + 2 + 1 ≡ k + 3 = omega arith in
+    ap (λ n. take n (set two (k + 2) z)) (sym second) ∙ written two (k + 2) z (omega (arith, within, long_one, long_two))
+    ∙ ap (λ front. front ++ z ∷ [])
+    (ap (λ n. take n two) (sym first) ∙ written one (k + 1) y (omega (arith, within, long_one)) ∙ ap (λ front. front ++ y ∷ []) (written xs k x (omega (arith, within))))
+    ∙ ap (λ front. front ++ z ∷ []) (append_assoc (take k xs) (x ∷ []) (y ∷ [])) ∙ append_assoc (take k xs) (x ∷ y ∷ []) (z ∷ [])
 
--- three bytes for four letters
-pub length-value : (s : List ℕ) → AllPass base64_class s → length s % 4 ≡ 0 → length (value_of s) ≡ length s / 4 * 3
-length-value [] all whole = refl
-length-value (a ∷ []) all whole = absurd (omega (arith, whole))
-length-value (a ∷ b ∷ []) all whole = absurd (omega (arith, whole))
-length-value (a ∷ b ∷ c ∷ []) all whole = absurd (omega (arith, whole))
-length-value (a ∷ b ∷ c ∷ d ∷ rest) all whole =
-    omega (arith, length-value rest (behind_four a b c d rest all) (omega (arith, whole)))
+-- the bytes of a group come behind those of the groups ahead of it, and ahead of the rest
+pub group_step : (letters value : List ℕ) (group m0 m1 m2 m3 : ℕ) → AllPass base64_class letters → 4 * group + 4 ≤ length letters → 3 * group + 3 ≤ length value →
+    m0 ≡ letter_number (get_or letters (4 * group) 0) → m1 ≡ letter_number (get_or letters (4 * group + 1) 0) →
+    m2 ≡ letter_number (get_or letters (4 * group + 2) 0) → m3 ≡ letter_number (get_or letters (4 * group + 3) 0) →
+    take (3 * group) value ++ value_of (drop (4 * group) letters) ≡ value_of letters →
+    take (3 * (group + 1)) (set (set (set value (3 * group) (4 * m0 + m1 / 16)) (3 * group + 1) (16 * (m1 % 16) + m2 / 4)) (3 * group + 2) (64 * (m2 % 4) + m3))
+    ++ value_of (drop (4 * (group + 1)) letters) ≡ value_of letters
+group_step letters value group m0 m1 m2 m3 all within room is_0 is_1 is_2 is_3 so_far =
+    let at = 4 * group in
+    let to = 3 * group in
+    let x = 4 * m0 + m1 / 16 in
+    let y = 16 * (m1 % 16) + m2 / 4 in
+    let z = 64 * (m2 % 4) + m3 in
+    let rest = drop (at + 4) letters in
+    let letter = λ (k : ℕ). get_or letters k 0 in
+    let bytes : value_of (drop at letters) ≡ x ∷ y ∷ z ∷ value_of rest =
+    rw (is_0, is_1, is_2, is_3) (
+    ap value_of (drop_group letters at within)
+    ∙ octets (letter at) (letter (at + 1)) (letter (at + 2)) (letter (at + 3)) rest
+    (all at 0 (omega (arith, within))) (all (at + 1) 0 (omega (arith, within))) (all (at + 2) 0 (omega (arith, within))) (all (at + 3) 0 (omega (arith, within)))
+    ) in
+    let taken : 3 * (group + 1) ≡ to + 3 = omega arith in
+    let left : 4 * (group + 1) ≡ at + 4 = omega arith in
+    rw (taken, left) (
+    ap (λ front. front ++ value_of rest) (three_written value to x y z room)
+    ∙ append_assoc (take to value) (x ∷ y ∷ z ∷ []) (value_of rest)
+    ∙ ap (λ bytes. take to value ++ bytes) (sym bytes) ∙ so_far
+    )
 
--- bytes below 256
-are_bytes : (s : List ℕ) → AllPass base64_class s → length s % 4 ≡ 0 → IsBytes (value_of s)
-are_bytes [] all whole i = omega arith
-are_bytes (a ∷ []) all whole i = absurd (omega (arith, whole))
-are_bytes (a ∷ b ∷ []) all whole i = absurd (omega (arith, whole))
-are_bytes (a ∷ b ∷ c ∷ []) all whole i = absurd (omega (arith, whole))
-are_bytes (a ∷ b ∷ c ∷ d ∷ rest) all whole zero = omega arith
-are_bytes (a ∷ b ∷ c ∷ d ∷ rest) all whole (suc zero) = omega arith
-are_bytes (a ∷ b ∷ c ∷ d ∷ rest) all whole (suc (suc zero)) = omega arith
-are_bytes (a ∷ b ∷ c ∷ d ∷ rest) all whole (suc (suc (suc i))) = are_bytes rest (behind_four a b c d rest all) (omega (arith, whole)) i
-
--- whole groups of letters decode to their bytes
-pub decodes : (s : List ℕ) → AllPass base64_class s → length s % 4 ≡ 0 → decode_of standard s ≡ Ok (value_of s)
-decodes s all whole =
-    let v = value_of s in
-    let no_padding : padding_len (length v) ≡ 0 = omega (arith, length-value s all whole) in
-    let text : encode_of standard v ≡ s =
-    ap (λ count. encode_symbols (engine_symbols standard) v ++ replicate count 61) no_padding ∙ append-nil (encode_symbols (engine_symbols standard) v) ∙ encodes s all whole in
-    subst (λ x. decode_of standard x ≡ Ok v) text (decode_of-encode_of standard v refl (are_bytes s all whole))
-
--- bytes that fill the room are all that it holds
-pub fills : (n : ℕ) (v new : List ℕ) → v ≡ take n new → length v ≡ length new → new ≡ v
-fills n v new is long =
-    let reach : length new ≤ n = omega (arith, ap length is, length-take n new) in
-    sym (is ∙ take_all n new reach)
-
-pub not_both : {E : Type 0} (r : Result (List ℕ) E) (v : List ℕ) (e : E) → r ≡ Ok v → r ≡ Err e → ⊥
-not_both r v e good bad = cc (good, bad)
-
-pub same_value : {E : Type 0} (r : Result (List ℕ) E) (v w : List ℕ) → r ≡ Ok v → r ≡ Ok w → v ≡ w
-same_value r v w one two = cc (one, two)
+-- all groups are written
+pub groups_written : (letters value : List ℕ) (groups : ℕ) → length letters ≤ 4 * groups → length value ≤ 3 * groups →
+    take (3 * groups) value ++ value_of (drop (4 * groups) letters) ≡ value_of letters → value ≡ value_of letters
+groups_written letters value groups all room so_far =
+    sym (append-nil value) ∙ ap (λ front. front ++ []) (sym (take_all (3 * groups) value room))
+    ∙ ap (λ rest. take (3 * groups) value ++ value_of rest) (sym (drop_all (4 * groups) letters all)) ∙ so_far

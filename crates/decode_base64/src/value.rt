@@ -2,14 +2,13 @@
 //
 // The letters are gathered behind the room for the value, and made up to groups of four by letters whose
 // bits are all 0; the bytes that these add are cut off.
-ghost use Rattle.std.specs.Prelude.{◌≡◌, ◌≤◌, ◌%◌, ◌/◌, ◌*◌, ◌++◌, [], length, take, drop, filter, flat_map, OnOk, OnErr};
+ghost use Rattle.std.specs.Prelude.{◌≡◌, ◌<◌, ◌≤◌, ◌%◌, ◌/◌, ◌*◌, ◌++◌, [], length, take, drop, filter, flat_map, IsTrue, OnOk, OnErr};
 ghost use Rattle.std.specs.List.{AllPass};
 ghost use Rattle.byte_kit.specs.Classes.{base64_class};
-ghost use Rattle.decode_base64.specs.Base64.{base64_value, bytes_of, six_bits};
+ghost use Rattle.decode_base64.specs.Base64.{base64_value, bytes_of, letter_number, six_bits};
 ghost use Rattle.decode_base64.specs.Text.{letter_count, IsText};
 
 use crate::letters::letters_len;
-use base64::engine::general_purpose::STANDARD;
 use byte_kit::NoMemory;
 use sbuf_nest::Extent;
 
@@ -65,15 +64,43 @@ fn gather_letters(text: &[u8], room: &mut [u8])
     }
 }
 
-// Decodes groups of four letters.
+// Decodes groups of four letters, three bytes for each.
 fn decode_groups(letters: &[u8], value: &mut [u8])
     requires letters { AllPass base64_class letters.now }
     requires whole { length letters.now % 4 ≡ 0 }
     requires room { length value.old ≡ length letters.now / 4 * 3 }
     ensures { value.new ≡ bytes_of (flat_map six_bits letters.now) }
 {
-    match STANDARD.decode_slice_unchecked(letters, value) {
-        Ok(_) => {}
-        Err(_) => unreachable!(),
+    for group in 0..value.len() / 3 {
+        let fourth = letter_number(letters[4 * group + 3]);
+        let third = letter_number(letters[4 * group + 2]);
+        let second = letter_number(letters[4 * group + 1]);
+        let first = letter_number(letters[4 * group]);
+        value[3 * group] = 4 * first + second / 16;
+        value[3 * group + 1] = 16 * (second % 16) + third / 4;
+        value[3 * group + 2] = 64 * (third % 4) + fourth;
     }
 }
+
+// The number of a letter.
+#[inline(always)]
+fn letter_number(letter: u8) -> u8
+    requires { IsTrue (base64_class letter) }
+    ensures number { result ≡ letter_number letter }
+    ensures below { result < 64 }
+{
+    NUMBERS[letter as usize]
+}
+
+// Each letter's number at the place that is its byte; no other entry is read.
+static NUMBERS: [u8; 256] = [
+    0, 0, 0, 0, 0, 0, 0, 0, 0, 0, 0, 0, 0, 0, 0, 0, 0, 0, 0, 0, 0, 0, 0, 0, 0, 0, 0, 0, 0, 0, 0, 0,
+    0, 0, 0, 0, 0, 0, 0, 0, 0, 0, 0, 62, 0, 0, 0, 63, 52, 53, 54, 55, 56, 57, 58, 59, 60, 61, 0, 0,
+    0, 0, 0, 0, 0, 0, 1, 2, 3, 4, 5, 6, 7, 8, 9, 10, 11, 12, 13, 14, 15, 16, 17, 18, 19, 20, 21,
+    22, 23, 24, 25, 0, 0, 0, 0, 0, 0, 26, 27, 28, 29, 30, 31, 32, 33, 34, 35, 36, 37, 38, 39, 40,
+    41, 42, 43, 44, 45, 46, 47, 48, 49, 50, 51, 0, 0, 0, 0, 0, 0, 0, 0, 0, 0, 0, 0, 0, 0, 0, 0, 0,
+    0, 0, 0, 0, 0, 0, 0, 0, 0, 0, 0, 0, 0, 0, 0, 0, 0, 0, 0, 0, 0, 0, 0, 0, 0, 0, 0, 0, 0, 0, 0, 0,
+    0, 0, 0, 0, 0, 0, 0, 0, 0, 0, 0, 0, 0, 0, 0, 0, 0, 0, 0, 0, 0, 0, 0, 0, 0, 0, 0, 0, 0, 0, 0, 0,
+    0, 0, 0, 0, 0, 0, 0, 0, 0, 0, 0, 0, 0, 0, 0, 0, 0, 0, 0, 0, 0, 0, 0, 0, 0, 0, 0, 0, 0, 0, 0, 0,
+    0, 0, 0, 0, 0, 0, 0, 0, 0, 0, 0, 0, 0, 0, 0, 0, 0, 0, 0, 0,
+];
