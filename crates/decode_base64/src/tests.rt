@@ -8,7 +8,7 @@ use std::test::Fail;
 // What stands ahead of a place and from it on, and the bytes and letters of the text there.
 type TextRow = (&'static [u8], &'static [u8], Option<(u32, u32)>);
 
-const TEXTS: [TextRow; 32] = [
+const TEXTS: &[TextRow] = &[
     (b"", b"aHR0cDovL2V4YW1wbGUuY29tL2hlbGx", None),
     (b"", b"aHR0cDovL2V4YW1wbGUuY29tL2hlbGxv", Some((32, 32))),
     (b"", b"aHR0cDovL2V4YW1wbGUuY29tL2hlbGxvL", Some((33, 33))),
@@ -138,7 +138,7 @@ fn text_of(before: &[u8], after: &[u8]) -> Option<(u32, u32)> {
 
 #[test]
 fn a_text_is_lines_of_one_length_and_a_last_one(rt: HostRuntime) {
-    for (before, after, want) in TEXTS {
+    for &(before, after, want) in TEXTS {
         assert_eq!(rt; text_of(before, after), want, "at {before:?} and {after:?}");
     }
 }
@@ -171,7 +171,7 @@ fn mail(
 // The lines of a long text, and the bytes and letters that are taken of it.
 type LongRow = (usize, usize, usize, &'static [u8], (u32, u32));
 
-const LONG: [LongRow; 7] = [
+const LONG: &[LongRow] = &[
     (0, 0, 65535, b"", (65535, 65535)),
     (0, 0, 65536, b"", (65536, 65536)),
     (0, 0, 65537, b"", (65536, 65536)),
@@ -183,7 +183,7 @@ const LONG: [LongRow; 7] = [
 
 #[test]
 fn a_text_has_at_most_65536_letters(rt: HostRuntime) -> Result<(), Fail> {
-    for (width, count, last, line_break, want) in LONG {
+    for &(width, count, last, line_break, want) in LONG {
         let text = mail(rt.alloc(), width, count, last, line_break)?;
         assert_eq!(rt;
             text_of(b"", text.as_slice()),
@@ -197,7 +197,7 @@ fn a_text_has_at_most_65536_letters(rt: HostRuntime) -> Result<(), Fail> {
 // A text and its value.
 type ValueRow = (&'static [u8], &'static [u8]);
 
-const VALUES: [ValueRow; 13] = [
+const VALUES: &[ValueRow] = &[
     (
         b"aHR0cDovL2V4YW1wbGUuY29tL2hlbGxv",
         b"http://example.com/hello",
@@ -264,7 +264,7 @@ fn value_into(after: &[u8], into: &mut Vec<u8>) -> Result<bool, NoMemory> {
 #[test]
 fn a_value_is_six_bits_a_letter(rt: HostRuntime) -> Result<(), Fail> {
     let mut value = Vec::from_slice(rt.alloc(), b"what stood there")?;
-    for (text, want) in VALUES {
+    for &(text, want) in VALUES {
         assert!(rt; value_into(text, &mut value)?, "no text: {text:?}");
         assert!(rt; value.as_slice() == want, "of {text:?}");
     }
@@ -304,7 +304,7 @@ fn are_texts(
 // A buffer, which of its places are owned, and the texts.
 type FindRow = (&'static [u8], usize, usize, &'static [(usize, u32, u32)]);
 
-const BUFFERS: [FindRow; 12] = [
+const BUFFERS: &[FindRow] = &[
     (
         b"aHR0cDovL2V4YW1wbGUuY29tL2hlbGxvLXdvcmxkLTE",
         0,
@@ -366,7 +366,7 @@ const BUFFERS: [FindRow; 12] = [
 
 #[test]
 fn the_texts_of_the_owned_places_are_found(rt: HostRuntime) -> Result<(), Fail> {
-    for (bytes, from, to, want) in BUFFERS {
+    for &(bytes, from, to, want) in BUFFERS {
         assert!(rt;
             are_texts((bytes, from, to), want, rt.alloc())?,
             "in {bytes:?} from {from} to {to}"
@@ -384,7 +384,7 @@ type MailRow = (
     &'static [(usize, u32, u32)],
 );
 
-const MAILS: [MailRow; 3] = [
+const MAILS: &[MailRow] = &[
     (0, 0, 140000, b"", &[(0, 65536, 65536)]),
     (32, 4500, 7, b"\r\n", &[(0, 69630, 65536)]),
     (31, 300, 32, b"\n", &[(9600, 32, 32)]),
@@ -392,7 +392,7 @@ const MAILS: [MailRow; 3] = [
 
 #[test]
 fn a_long_text_is_one_start(rt: HostRuntime) -> Result<(), Fail> {
-    for (width, count, last, line_break, want) in MAILS {
+    for &(width, count, last, line_break, want) in MAILS {
         let bytes = mail(rt.alloc(), width, count, last, line_break)?;
         let len = bytes.len();
         assert!(rt;

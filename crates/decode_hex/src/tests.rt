@@ -11,7 +11,7 @@ const HELLO: &[u8] = b"68656c6c6f2c2068657820776f726c64";
 // What stands ahead of a place and from it on, and the bytes and digits of the run there.
 type RunRow = (&'static [u8], &'static [u8], Option<(u32, u32)>);
 
-const RUNS: [RunRow; 29] = [
+const RUNS: &[RunRow] = &[
     (b"", b"68656c6c6f2c2068657820776f726c6", None),
     (b"", HELLO, Some((32, 32))),
     (b"", b"68656c6c6f2c2068657820776f726c642", Some((32, 32))),
@@ -54,7 +54,7 @@ fn run_at(before: &[u8], after: &[u8]) -> Option<(u32, u32)> {
 
 #[test]
 fn a_run_has_at_least_32_digits_and_none_right_ahead(rt: HostRuntime) {
-    for (before, after, want) in RUNS {
+    for &(before, after, want) in RUNS {
         assert_eq!(rt; run_at(before, after), want, "at {before:?} and {after:?}");
     }
 }
@@ -87,7 +87,7 @@ fn at_most_16384_digits_are_taken_and_whole_pairs_alone(rt: HostRuntime) -> Resu
 // A run and its value.
 type ValueRow = (&'static [u8], &'static [u8]);
 
-const VALUES: [ValueRow; 6] = [
+const VALUES: &[ValueRow] = &[
     (HELLO, b"hello, hex world"),
     (
         b"6148523063446f764c3256345957317762475575593239744c32686c624778764c586476636d786b4c54453d",
@@ -114,7 +114,7 @@ fn value_into(after: &[u8], into: &mut Vec<u8>) -> Result<bool, NoMemory> {
 #[test]
 fn a_value_has_a_byte_for_each_two_digits(rt: HostRuntime) -> Result<(), Fail> {
     let mut value = Vec::from_slice(rt.alloc(), b"what stood there")?;
-    for (digits, want) in VALUES {
+    for &(digits, want) in VALUES {
         assert!(rt; value_into(digits, &mut value)?, "no run: {digits:?}");
         assert!(rt; value.as_slice() == want, "of {digits:?}");
     }
@@ -162,7 +162,7 @@ type FindRow = (&'static [u8], usize, usize, &'static [(usize, u32)]);
 // Two runs, a byte apart, behind a byte of another class.
 const TWO: &[u8] = b".68656c6c6f2c2068657820776f726c64:68656C6C6F2C2068657820776F726C6421f";
 
-const BUFFERS: [FindRow; 18] = [
+const BUFFERS: &[FindRow] = &[
     (HELLO, 0, 32, &[(0, 32)]),
     (HELLO, 0, 1, &[(0, 32)]),
     (HELLO, 0, 0, &[]),
@@ -190,7 +190,7 @@ const BUFFERS: [FindRow; 18] = [
 
 #[test]
 fn the_runs_of_the_owned_places_are_found(rt: HostRuntime) -> Result<(), Fail> {
-    for (bytes, from, to, want) in BUFFERS {
+    for &(bytes, from, to, want) in BUFFERS {
         assert!(rt;
             are_runs((bytes, from, to), want, rt.alloc())?,
             "in {bytes:?} from {from} to {to}"
@@ -223,7 +223,7 @@ fn no_offset_hides_a_run(rt: HostRuntime) -> Result<(), Fail> {
 // What stands ahead of a long run, how many digits it has, the first owned place, and the runs.
 type LongRow = (&'static [u8], usize, usize, &'static [(usize, u32)]);
 
-const LONG: [LongRow; 6] = [
+const LONG: &[LongRow] = &[
     (b"", 16384, 0, &[(0, 16384)]),
     (b"", 16386, 0, &[(0, 16384)]),
     (b".", 40000, 0, &[(1, 16384)]),
@@ -234,7 +234,7 @@ const LONG: [LongRow; 6] = [
 
 #[test]
 fn a_run_that_is_cut_begins_once(rt: HostRuntime) -> Result<(), Fail> {
-    for (ahead, digits, from, want) in LONG {
+    for &(ahead, digits, from, want) in LONG {
         let bytes = long(rt.alloc(), ahead, digits)?;
         let to = bytes.len();
         assert!(rt;

@@ -14,7 +14,7 @@ type Run = (u32, u32);
 // What stands ahead of a place and from it on, and the run that begins there.
 type RunRow = (&'static [u8], &'static [u8], Option<Run>);
 
-const RUNS: [RunRow; 20] = [
+const RUNS: &[RunRow] = &[
     (b"", b"s\0e\0v\0e\0n\0 \0p\0", None),
     (b"", b"s\0e\0v\0e\0n\0 \0p\0a", None),
     (b"", b"s\0e\0v\0e\0n\0 \0p\0a\x01", None),
@@ -43,7 +43,7 @@ fn run_at(before: &[u8], after: &[u8]) -> Option<Run> {
 
 #[test]
 fn a_run_has_at_least_8_pairs_and_none_right_ahead(rt: HostRuntime) {
-    for (before, after, run) in RUNS {
+    for &(before, after, run) in RUNS {
         assert_eq!(rt; run_at(before, after), run, "at {before:?} and {after:?}");
     }
 }
@@ -131,7 +131,7 @@ fn is_start(start: &Start, at: usize, run: Run) -> bool {
 // A buffer, which of its places are owned, and the places and lengths of its runs.
 type FindRow = (&'static [u8], usize, usize, &'static [(usize, Run)]);
 
-const BUFFERS: [FindRow; 18] = [
+const BUFFERS: &[FindRow] = &[
     (EIGHT, 0, 16, &[(0, (16, 8))]),
     (EIGHT, 0, 1, &[(0, (16, 8))]),
     (EIGHT, 0, 0, &[]),
@@ -169,7 +169,7 @@ const BUFFERS: [FindRow; 18] = [
 
 #[test]
 fn the_runs_of_the_owned_places_are_found(rt: HostRuntime) -> Result<(), Fail> {
-    for (bytes, from, to, want) in BUFFERS {
+    for &(bytes, from, to, want) in BUFFERS {
         assert!(rt;
             are_runs((bytes, from, to), want, rt.alloc())?,
             "in {bytes:?} from {from} to {to}"
@@ -204,7 +204,7 @@ fn no_offset_hides_a_run(rt: HostRuntime) -> Result<(), Fail> {
 // What stands ahead of a long run, how many pairs it has, the first owned place, and the runs.
 type LongRow = (&'static [u8], usize, usize, &'static [(usize, Run)]);
 
-const LONG: [LongRow; 6] = [
+const LONG: &[LongRow] = &[
     (b"", 4096, 0, &[(0, (8192, 4096))]),
     (b"", 4097, 0, &[(0, (8192, 4096))]),
     (b".", 10000, 0, &[(1, (8192, 4096))]),
@@ -215,7 +215,7 @@ const LONG: [LongRow; 6] = [
 
 #[test]
 fn a_run_that_is_cut_begins_once(rt: HostRuntime) -> Result<(), Fail> {
-    for (ahead, pairs, from, want) in LONG {
+    for &(ahead, pairs, from, want) in LONG {
         let bytes = long(rt.alloc(), ahead, pairs)?;
         let to = bytes.len();
         assert!(rt;
@@ -227,7 +227,7 @@ fn a_run_that_is_cut_begins_once(rt: HostRuntime) -> Result<(), Fail> {
 }
 
 // Some bytes, a mask, and the bytes as it shows them.
-const VIEWS: [(&[u8], u8, &[u8]); 6] = [
+const VIEWS: &[(&[u8], u8, &[u8])] = &[
     (b"", 255, b""),
     (b"\0\x01\xfe\xff", 255, b"\xff\xfe\x01\0"),
     (b"\0Http\xaa", 85, b"\x55\x1d!!%\xff"),
@@ -239,7 +239,7 @@ const VIEWS: [(&[u8], u8, &[u8]); 6] = [
 #[test]
 fn a_view_has_each_byte_masked(rt: HostRuntime) -> Result<(), Fail> {
     let mut view = Vec::from_slice(rt.alloc(), b"older")?;
-    for (bytes, mask, want) in VIEWS {
+    for &(bytes, mask, want) in VIEWS {
         xor_view(bytes, mask, &mut view)?;
         assert!(rt; view.as_slice() == want, "{bytes:?} by {mask}");
     }

@@ -16,7 +16,7 @@ struct Row {
     marks: &'static [(usize, u16, u32)],
 }
 
-const ROWS: [Row; 20] = [
+const ROWS: &[Row] = &[
     // keywords overlap, also with themselves
     Row {
         text: b"aaa",
@@ -215,7 +215,7 @@ fn found(
 
 #[test]
 fn keywords_and_patterns_are_found_at_each_place_by_itself(rt: HostRuntime) -> Result<(), Fail> {
-    for row in &ROWS {
+    for row in ROWS {
         let keywords = copies(rt.alloc(), row.keywords)?;
         let marks = found(
             rt.alloc(),

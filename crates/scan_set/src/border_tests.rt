@@ -7,7 +7,7 @@ use sbuf_nest::Sbuf;
 use std::test::Fail;
 
 // A block has 65,536 places.
-const ACROSS: [Case; 6] = [
+const ACROSS: &[Case] = &[
     (
         ONE_DEEP,
         65520,
@@ -72,7 +72,7 @@ const ACROSS: [Case; 6] = [
 
 #[test]
 fn a_text_across_a_border_of_blocks_is_decoded_once(rt: HostRuntime) -> Result<(), Fail> {
-    assert_eq!(rt; failing(rt.alloc(), &ACROSS)?, None);
+    assert_eq!(rt; failing(rt.alloc(), ACROSS)?, None);
     Ok(())
 }
 
@@ -80,7 +80,7 @@ fn a_text_across_a_border_of_blocks_is_decoded_once(rt: HostRuntime) -> Result<(
 type OwnedCase = (&'static [u8], (usize, usize), u8, &'static [Row]);
 
 // Texts behind two bytes, in a buffer that stands at 1000.
-const OWNED: [OwnedCase; 8] = [
+const OWNED: &[OwnedCase] = &[
     (
         b"a aHR0cDovL2V4YW1wbGUuY29tL2hlbGxvLXdvcmxkLTE= b",
         (2, 3),
@@ -138,7 +138,7 @@ const OWNED: [OwnedCase; 8] = [
 #[test]
 fn a_text_is_decoded_where_its_first_place_is_owned(rt: HostRuntime) -> Result<(), Fail> {
     let mut tools = make_tools(rt.alloc())?;
-    for (bytes, (from, to), mask, want) in OWNED {
+    for &(bytes, (from, to), mask, want) in OWNED {
         if from <= to && to <= bytes.len() && bytes.len() < 1024 {
             let sb = Sbuf::of(bytes, from, to, 1000);
             let asked = (URLS | DECODERS, 1, mask, 0);

@@ -12,7 +12,7 @@ use std::test::Fail;
 const HIDDEN: &[u8] =
     b"\xc9\xce\xcb\xc7\xca\xcd\xcc\xcf\xc9\xcc\xcb\xcb\xc9\x99\xc8\xc9\xcb\x9c\xcc\xcd\xca\xc9\xcc\xcb\xca\xc6\xca\xc8\xcc\xce\xc8\xc8\xc9\xcd\xcb\xc8\xca\xca\xc8\xca\xca\xc6\xcc\xcd\xcc\xc6\xc8\xcb\xcb\x9c\xcc\xcd\xc9\xc7\xc9\x9c\xc9\xcd\xcb\xc8\xc8\xc7\xc8\xc9\xcb\x9c\xca\xc7\xc9\xcb\xc8\xc9\xc9\xcc\xc9\x9b\xc8\xc7\xc9\x9d\xcb\x9c\xca\xcb\xcb\xca\xcc\x9b";
 
-const VIEWED: [Case; 4] = [
+const VIEWED: &[Case] = &[
     (
         (URLS | DECODERS, 3, 255, 0),
         0,
@@ -52,14 +52,14 @@ const VIEWED: [Case; 4] = [
 
 #[test]
 fn a_view_is_taken_once_on_a_way(rt: HostRuntime) -> Result<(), Fail> {
-    assert_eq!(rt; failing(rt.alloc(), &VIEWED)?, None);
+    assert_eq!(rt; failing(rt.alloc(), VIEWED)?, None);
     Ok(())
 }
 
 // As Base64 `kMyoMysMy` and bytes of no word, as hexadecimal six bytes of no word and `strawberry`.
 const BOTH: &[u8] = b"a015b015c01573747261776265727279";
 
-const ORDERED: [Case; 4] = [
+const ORDERED: &[Case] = &[
     (
         (WORD | DECODERS, 1, 0, 0),
         0,
@@ -114,7 +114,7 @@ const ORDERED: [Case; 4] = [
 fn a_place_has_its_own_features_ahead_of_the_decoded_ones_and_of_its_view(
     rt: HostRuntime,
 ) -> Result<(), Fail> {
-    assert_eq!(rt; failing(rt.alloc(), &ORDERED)?, None);
+    assert_eq!(rt; failing(rt.alloc(), ORDERED)?, None);
     Ok(())
 }
 
@@ -131,7 +131,7 @@ fn digits_of(alloc: Global, bytes: &[u8]) -> Result<Vec<u8>, NoMemory> {
 }
 
 // How deep, and the features of `http://abc.com/x` as hexadecimal digits seven times over.
-const DEEP: [(u8, &[Row]); 3] = [
+const DEEP: &[(u8, &[Row])] = &[
     (
         7,
         &[(
@@ -152,7 +152,7 @@ fn a_text_of_a_text_is_searched_as_deep_as_the_plan_says(rt: HostRuntime) -> Res
         text = digits_of(rt.alloc(), text.as_slice())?;
     }
     let sb = Sbuf::child(text.as_slice());
-    for (depth, want) in DEEP {
+    for &(depth, want) in DEEP {
         let asked = (1 | HEX, depth, 0, 0);
         let made = makes(rt.alloc(), &mut tools, &sb, asked, want, &[])?;
         assert!(rt; made, "{depth} deep");

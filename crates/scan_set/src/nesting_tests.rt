@@ -130,7 +130,7 @@ pub(crate) const DIGITS: &[u8] = b"687474703a2f2f6162632e636f6d2f78";
 
 pub(crate) const ONE_DEEP: Asked = (URLS | DECODERS, 1, 0, 0);
 
-const ENCODED: [Case; 20] = [
+const ENCODED: &[Case] = &[
     (
         (URLS | DECODERS, 7, 0, 16),
         100,
@@ -260,6 +260,6 @@ const ENCODED: [Case; 20] = [
 
 #[test]
 fn a_text_is_searched_by_what_it_says(rt: HostRuntime) -> Result<(), Fail> {
-    assert_eq!(rt; failing(rt.alloc(), &ENCODED)?, None);
+    assert_eq!(rt; failing(rt.alloc(), ENCODED)?, None);
     Ok(())
 }

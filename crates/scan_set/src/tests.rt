@@ -145,7 +145,7 @@ const PACKET: &[u8] = b"\x45\0\0\x73\0\0\x40\0\x40\x11\xb8\x61\xc0\xa8\0\x01\xc0
 // An ELF header.
 const ELF: &[u8] = b"\x7fELF\x02\x01\x01\0\0\0\0\0\0\0\0\0\x02\0\x3e\0";
 
-const ACROSS: [(&[u8], Asked, &[Row]); 6] = [
+const ACROSS: &[(&[u8], Asked, &[Row])] = &[
     (
         b"http://a.b/ ",
         (URL | DOMAIN, 16, b"", &[]),
@@ -180,7 +180,7 @@ const ACROSS: [(&[u8], Asked, &[Row]); 6] = [
 
 #[test]
 fn what_lies_across_a_border_of_blocks_is_found_once(rt: HostRuntime) -> Result<(), Fail> {
-    for (text, asked, want) in ACROSS {
+    for &(text, asked, want) in ACROSS {
         for ahead in [65516, 65526, 65533, 65534, 65535, 65536, 65537] {
             assert!(rt;
                 are_between_blanks(rt.alloc(), text, ahead, 65600, asked, want)?,
@@ -215,7 +215,7 @@ const GZIP_MIXED: &[u8] =
 const IP_MIXED: &[u8] =
     b"\x45\0\0\x14\0\0\0\0\x40\x11\x2d\x67\x08\0\x45\0\0\x73\0\0\x40\0\x40\x11\xb8\x61\xc0\xa8\0\x01\xc0\xa8\0\xc7";
 
-const ORDERED: [Case; 10] = [
+const ORDERED: &[Case] = &[
     (
         MIXED,
         (0, 34),
@@ -316,11 +316,11 @@ const ORDERED: [Case; 10] = [
 fn a_place_has_the_features_of_the_scanners_that_are_on_in_the_order_of_kinds(
     rt: HostRuntime,
 ) -> Result<(), Fail> {
-    assert_eq!(rt; failing(rt.alloc(), &ORDERED)?, None);
+    assert_eq!(rt; failing(rt.alloc(), ORDERED)?, None);
     Ok(())
 }
 
-const OWNED: [Case; 6] = [
+const OWNED: &[Case] = &[
     (
         b"http://a.b/?u=http://c.d/",
         (0, 25),
@@ -366,11 +366,11 @@ const OWNED: [Case; 6] = [
 
 #[test]
 fn only_the_owned_places_have_features(rt: HostRuntime) -> Result<(), Fail> {
-    assert_eq!(rt; failing(rt.alloc(), &OWNED)?, None);
+    assert_eq!(rt; failing(rt.alloc(), OWNED)?, None);
     Ok(())
 }
 
-const IN_CONTEXT: [Case; 6] = [
+const IN_CONTEXT: &[Case] = &[
     (
         b"abc http://a.b/ def",
         (4, 5),
@@ -422,6 +422,6 @@ const IN_CONTEXT: [Case; 6] = [
 
 #[test]
 fn a_context_ends_with_the_buffer_or_the_reach(rt: HostRuntime) -> Result<(), Fail> {
-    assert_eq!(rt; failing(rt.alloc(), &IN_CONTEXT)?, None);
+    assert_eq!(rt; failing(rt.alloc(), IN_CONTEXT)?, None);
     Ok(())
 }

@@ -1,7 +1,7 @@
 // The keywords and the patterns that are looked for.
 
 /// Words that an archivist may look for.
-pub const KEYWORDS: [&str; 64] = [
+pub const KEYWORDS: &[&str] = &[
     "Project Heron",
     "Alice Johnson",
     "minutes of the meeting",
@@ -69,7 +69,7 @@ pub const KEYWORDS: [&str; 64] = [
 ];
 
 /// A rare word, a capitalised word ahead of a year, a number of two groups, and a name with anything in it.
-pub const PATTERNS: [&str; 4] = [
+pub const PATTERNS: &[&str] = &[
     "xyzzy",
     "[A-Z][a-z]+ [0-9]{4}",
     r"\b\d{3}-\d{4}\b",

@@ -58,26 +58,33 @@ pub enum Search {
     Xor,
 }
 
+// The searches by their names.
+const NAMES: &[(&str, Search)] = &[
+    ("url", Search::Url),
+    ("net", Search::Net),
+    ("exec", Search::Exec),
+    ("find1", Search::Find(1)),
+    ("find", Search::Find(8)),
+    ("find64", Search::Find(64)),
+    ("pattern1", Search::Pattern(1)),
+    ("pattern", Search::Pattern(4)),
+    ("word", Search::Word),
+    ("base64", Search::Base64),
+    ("hex", Search::Hex),
+    ("utf16", Search::Utf16),
+    ("all", Search::All),
+    ("xor", Search::Xor),
+];
+
 impl Search {
     /// The search that a word names.
     pub fn named(word: &str) -> Option<Search> {
-        match word {
-            "url" => Some(Search::Url),
-            "net" => Some(Search::Net),
-            "exec" => Some(Search::Exec),
-            "find1" => Some(Search::Find(1)),
-            "find" => Some(Search::Find(8)),
-            "find64" => Some(Search::Find(64)),
-            "pattern1" => Some(Search::Pattern(1)),
-            "pattern" => Some(Search::Pattern(4)),
-            "word" => Some(Search::Word),
-            "base64" => Some(Search::Base64),
-            "hex" => Some(Search::Hex),
-            "utf16" => Some(Search::Utf16),
-            "all" => Some(Search::All),
-            "xor" => Some(Search::Xor),
-            _ => None,
+        for (name, search) in NAMES {
+            if *name == word {
+                return Some(*search);
+            }
         }
+        None
     }
 }
 

@@ -8,7 +8,7 @@ use std::test::Fail;
 // What stands ahead of a place and from it on, the bounds of words, and the word's length.
 type LenRow = (&'static [u8], &'static [u8], u16, u16, Option<u32>);
 
-const LENGTHS: [LenRow; 16] = [
+const LENGTHS: &[LenRow] = &[
     (b"", b"berry", 6, 14, None),
     (b"", b"cherry", 6, 14, Some(6)),
     (b"", b"huckle-berries", 6, 14, Some(14)),
@@ -38,7 +38,7 @@ fn length_of(before: &[u8], after: &[u8], min: u16, max: u16) -> Option<u32> {
 
 #[test]
 fn a_word_is_a_whole_run_within_its_bounds(rt: HostRuntime) {
-    for (before, after, min, max, want) in LENGTHS {
+    for &(before, after, min, max, want) in LENGTHS {
         assert_eq!(rt;
             length_of(before, after, min, max),
             want,
@@ -97,7 +97,7 @@ type FindRow = (
     &'static [(usize, u32)],
 );
 
-const BUFFERS: [FindRow; 14] = [
+const BUFFERS: &[FindRow] = &[
     (
         b"a cherry and a strawberry",
         0,
@@ -152,7 +152,7 @@ const BUFFERS: [FindRow; 14] = [
 
 #[test]
 fn the_words_of_the_owned_places_are_found(rt: HostRuntime) -> Result<(), Fail> {
-    for (bytes, from, to, bounds, want) in BUFFERS {
+    for &(bytes, from, to, bounds, want) in BUFFERS {
         assert!(rt;
             are_words((bytes, from, to), bounds, want, rt.alloc())?,
             "in {bytes:?} from {from} to {to}"
@@ -196,7 +196,7 @@ type AheadRow = (
     &'static [(usize, u32)],
 );
 
-const AHEAD: [AheadRow; 6] = [
+const AHEAD: &[AheadRow] = &[
     (b"strawberry", 508, 0, (6, 14), &[(508, 10)]),
     (b"strawberry", 508, 508, (6, 14), &[(508, 10)]),
     (b"strawberry", 508, 512, (6, 14), &[]),
@@ -207,7 +207,7 @@ const AHEAD: [AheadRow; 6] = [
 
 #[test]
 fn no_word_begins_within_a_run_that_began_ahead(rt: HostRuntime) -> Result<(), Fail> {
-    for (word, ahead, from, bounds, want) in AHEAD {
+    for &(word, ahead, from, bounds, want) in AHEAD {
         let bytes = spaced(rt.alloc(), ahead, word, 1024)?;
         let found = are_words((bytes.as_slice(), from, 1024), bounds, want, rt.alloc())?;
         assert!(rt; found, "{word:?} from {from}");
