@@ -10,10 +10,12 @@
 
 mod look_up;
 mod place_test;
+mod rows;
 mod search;
 
 pub use look_up::{by_high_half, by_low_half};
 pub use place_test::{LANES, PlaceTest};
+pub use rows::{ROW, next_row};
 pub use search::next_place;
 
 #[cfg(test)]
