@@ -12,7 +12,3 @@ begins_row class least look = begins_run class look && nat_le least (prefix_len 
 abbrev pub NoRowFrom : (ℕ → Bool) → ℕ → List ℕ → ℕ → ℕ → Type 0
 NoRowFrom class least bytes first end =
     (place : ℕ) → first ≤ place → place < end → begins_row class least (look_at bytes place) ≡ false
-
--- a byte of another class stands at the place
-abbrev pub IsStranger : (ℕ → Bool) → List ℕ → ℕ → Type 0
-IsStranger class bytes place = (place < length bytes) × (class (slice_index bytes place) ≡ false)

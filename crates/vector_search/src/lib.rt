@@ -13,7 +13,7 @@ mod place_test;
 mod rows;
 mod search;
 
-pub use look_up::{by_high_half, by_low_half};
+pub use look_up::{by_high_half, by_low_half, outside};
 pub use place_test::{LANES, PlaceTest};
 pub use rows::{ROW, next_row};
 pub use search::next_place;
