@@ -1,5 +1,5 @@
 -- Runs of hexadecimal digits: how far they go, and that the crate `hex` decodes them as the definition does.
-use Rattle.std.proofs.Common.{◌≡◌, ◌∙◌, ℕ, suc, ◌+◌, ◌*◌, ◌/◌, ◌%◌, ◌<◌, ◌≤◌, Bool, true, false, ◌&&◌, ◌==◌, cond, List, [], ◌∷◌, length, take, min, Option, Some, None, unwrap_or, Ok, refl, sym, ap, arith}
+use Rattle.std.proofs.Common.{◌≡◌, ◌∙◌, ℕ, suc, ◌+◌, ◌*◌, ◌/◌, ◌%◌, ◌<◌, ◌≤◌, Bool, true, false, ◌&&◌, ◌==◌, not, cond, List, [], ◌∷◌, length, take, min, Option, Some, None, unwrap_or, Ok, refl, sym, ap, arith}
 use Rattle.std.specs.List.{prefix_len, AllPass}
 use Rattle.std.specs.Prelude.{nat_le, nat_lt, option_map, if◌then◌else◌}
 use Rattle.std.specs.Option.{option_map_or}
@@ -18,7 +18,14 @@ use Rattle.hex.specs.Hex.{hex_digit_value, pair_value, decode_pairs, decode_size
 use Rattle.hex.proofs.Pairs.{cons_byte, decode_pairs-ok_pair}
 use Rattle.decode_hex.specs.Hex.{paired, hex_extent, hex_run, hex_value, digit_number, IsText}
 use Rattle.decode_hex.specs.Starts.{hex_starts}
+use Rattle.vector_search.specs.Classes.{is_outside}
+use Rattle.decode_hex.specs.declared.run.TheConstants.{COLUMNS, ROWS}
 use Rattle.decode_hex.specs.declared.TheConstants.{DIGITS_LEAST, DIGITS_MOST}
+
+-- the tables tell the bytes that are no digits
+pub no_digit : (byte : ℕ) → byte < 256 → is_outside COLUMNS ROWS byte ≡ not (hex_class byte)
+unfolding hex_class
+no_digit byte small = agree_below_at (is_outside COLUMNS ROWS) (λ b. not (hex_class b)) 256 byte refl small
 
 -- ---- the run of a place
 

@@ -70,8 +70,3 @@ module _ (class : ℕ → Bool) (bytes : List ℕ) where
         | inr few ↦ omega (arith, few)
       ]
       )
-
-  -- the bytes end ahead of so many
-  pub none_to_end : (least place : ℕ) → 1 ≤ least → least ≤ LOOK_AFTER → length bytes < place + least → begins_row class least (look_at bytes place) ≡ false
-  none_to_end least place some seen short =
-      few_in_row least place seen (omega (arith, prefix_len-le-length class (drop place bytes), length-drop place bytes))

@@ -1,5 +1,5 @@
 -- Where runs of bytes of a class begin.
-use Rattle.std.specs.Prelude.{◌≡◌, ℕ, ◌<◌, ◌≤◌, ◌&&◌, nat_le, Bool, false, List, length, slice_index}
+use Rattle.std.specs.Prelude.{◌≡◌, ℕ, ◌<◌, ◌≤◌, ◌&&◌, nat_le, Bool, false, List}
 use Rattle.std.specs.List.{prefix_len}
 use Rattle.sbuf_nest.specs.Around.{Around, look_at}
 use Rattle.sbuf_nest.specs.Edges.{begins_run}

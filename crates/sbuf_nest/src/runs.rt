@@ -79,6 +79,7 @@ pub fn next_row<C: ByteClass>(bytes: &[u8], next: usize, to: usize) -> usize
 }
 
 // The test of places at which no byte of the class stands.
+#[derive(Drop)]
 struct Strangers<C> {
     class: PhantomData<C>,
 }
