@@ -50,20 +50,32 @@ module _ (stranger : ℕ → Bool) (end : ℕ) where
         (λ place low high. none_marked stranger (first + 16) 16 (sym is_late ∙ no_late) place low (omega arith)),
   )
 
+  -- one of the blocks of a step
+  step_part : (first at marks : ℕ) → at ≡ first + 15 → marks ≡ mask_of stranger at 16 → not (nat_eq marks 0) ≡ true →
+      NoRowIn stranger end first (first + 16)
+  step_part first at marks is_at is some = block_bars first marks (is ∙ ap (λ k. mask_of stranger k 16) is_at) (other marks some)
+
+  four_bar : (first : ℕ) → NoRowIn stranger end first (first + 16) → NoRowIn stranger end (first + 16) (first + 16 + 16)
+      → NoRowIn stranger end (first + 32) (first + 32 + 16) → NoRowIn stranger end (first + 48) (first + 48 + 16) → NoRowIn stranger end first (first + 64)
+  four_bar first one two three four =
+      no_row_further first (first + 16) (first + 64) one
+      (no_row_further (first + 16) (first + 32) (first + 64) (fewer (first + 16) (first + 32) (first + 16 + 16) (omega arith) two)
+      (no_row_further (first + 32) (first + 48) (first + 64) (fewer (first + 32) (first + 48) (first + 32 + 16) (omega arith) three)
+      (fewer (first + 48) (first + 64) (first + 48 + 16) (omega arith) four)))
+
   -- a step of the search: four masks that each show a stranger
   pub step_bars : (first a b c d : ℕ) → a ≡ mask_of stranger (first + 15) 16 → b ≡ mask_of stranger (first + 15 + 16) 16
       → c ≡ mask_of stranger (first + 15 + 32) 16 → d ≡ mask_of stranger (first + 15 + 48) 16
       → IsTrue (not (nat_eq a 0) && not (nat_eq b 0) && not (nat_eq c 0) && not (nat_eq d 0)) → NoRowIn stranger end first (first + 64)
   step_bars first a b c d is_a is_b is_c is_d all =
-      let one = and_parts _ _ all in
-      let two = and_parts _ _ one.0 in
-      let three = and_parts _ _ two.0 in
-      let bars : (at last marks : ℕ) → at + 16 ≡ last → marks ≡ mask_of stranger (at + 15) 16 → not (nat_eq marks 0) ≡ true → NoRowIn stranger end at last =
-      λ at last marks e is some. fewer at last (at + 16) (omega (arith, e)) (block_bars at marks is (other marks some)) in
-      no_row_further first (first + 16) (first + 64) (bars first (first + 16) a refl is_a three.0)
-      (no_row_further (first + 16) (first + 32) (first + 64) (bars (first + 16) (first + 32) b (omega arith) (is_b ∙ ap (λ k. mask_of stranger k 16) (omega arith)) three.1)
-      (no_row_further (first + 32) (first + 48) (first + 64) (bars (first + 32) (first + 48) c (omega arith) (is_c ∙ ap (λ k. mask_of stranger k 16) (omega arith)) two.1)
-      (bars (first + 48) (first + 64) d (omega arith) (is_d ∙ ap (λ k. mask_of stranger k 16) (omega arith)) one.1)))
+      let e : first + 15 + 16 ≡ first + 16 + 15 = omega arith in
+      let f : first + 15 + 32 ≡ first + 32 + 15 = omega arith in
+      let g : first + 15 + 48 ≡ first + 48 + 15 = omega arith in
+      let three = and_parts (not (nat_eq a 0) && not (nat_eq b 0) && not (nat_eq c 0)) (not (nat_eq d 0)) all in
+      let two = and_parts (not (nat_eq a 0) && not (nat_eq b 0)) (not (nat_eq c 0)) three.0 in
+      let one = and_parts (not (nat_eq a 0)) (not (nat_eq b 0)) two.0 in
+      four_bar first (step_part first _ a refl is_a one.0) (step_part (first + 16) _ b e is_b one.1)
+      (step_part (first + 32) _ c f is_c two.1) (step_part (first + 48) _ d g is_d three.1)
 
 -- the first stranger of a mask stands in it
 pub few_zeros : (stranger : ℕ → Bool) (at marks : ℕ) → marks ≡ mask_of stranger at 16 → marks ≢ 0 → count_trailing_zeros 64 marks < 16

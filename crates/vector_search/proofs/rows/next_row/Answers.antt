@@ -19,8 +19,8 @@ loop-at-preserved-then-late-ne0 g c =
       within = c.past_broken-at.ensures.high;
       none = no_row_further stranger end c.args.from at c.past_broken-at.result c.loop-at.invariant.none
           (no_row_further stranger end at next c.past_broken-at.result
-              (fewer stranger end at next behind (omega arith) (mask_bars stranger end at (at + 16) c.mask-late.result (omega arith) (omega arith) c.mask-late.ensures c.if-late-ne0.true))
-              c.past_broken-at.ensures.none);
+          (fewer stranger end at next behind (omega arith) (mask_bars stranger end at (at + 16) c.mask-late.result (omega arith) (omega arith) c.mask-late.ensures c.if-late-ne0.true))
+          c.past_broken-at.ensures.none);
     }
 
 pub returns-then-early-eq0 : goal.returns-then-early-eq0
