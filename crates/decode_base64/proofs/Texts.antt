@@ -1,13 +1,11 @@
 -- Where a text begins, and what is known of one.
-use Rattle.std.proofs.Common.{drop, get_or, ◌+◌, ◌-◌, ◌<◌, inl, inr, length-drop, ◌≡◌, ◌∙◌, ℕ, ◌≤◌, ◌&&◌, not, nat_le, Bool, true, false, List, length, take, refl, sym, ap, arith, ◌⊎◌, Some, None}
+use Rattle.std.proofs.Common.{◌+◌, ◌<◌, inl, inr, ◌≡◌, ◌∙◌, ℕ, ◌≤◌, ◌&&◌, not, nat_le, Bool, true, false, List, length, take, refl, sym, ap, arith, ◌⊎◌, Some, None}
 use Rattle.std.specs.Prelude.{option_map, if◌then◌else◌}
 use Rattle.std.specs.List.{prefix_len, list_any}
 use Rattle.std.specs.Prelude.{slice_index}
 use Rattle.std.proofs.lemmas.Bool.{cases_lt}
 use Rattle.std.proofs.lemmas.Bool.Decides.{nat_tests}
-use Rattle.std.proofs.lemmas.List.{get_or-drop, get_or-take, length-take}
-use Rattle.std.proofs.lemmas.List.Sums.{prefix_len_passes, prefix_len-le-length}
-use Rattle.sbuf_nest.proofs.ClassRuns.{none_to_stranger, none_inside as row_inside}
+use Rattle.sbuf_nest.proofs.ClassRuns.{none_to_stranger}
 use Rattle.byte_kit.specs.Classes.{base64_class}
 use Rattle.sbuf_nest.specs.Around.{Around, look_at}
 use Rattle.sbuf_nest.specs.Edges.{begins_run}
@@ -76,26 +74,7 @@ module _ (look : Around) where
 pub none_from : (bytes : List ℕ) (first end : ℕ) → NoRowFrom base64_class LINE_LEAST bytes first end → NoneFrom base64_starts bytes first end
 none_from bytes first end none place low high = rw (none_of_row (look_at bytes place) (none place low high)) refl
 
--- ---- inside a run
-
--- a run that goes on from a letter
-pub none_in_run : (bytes : List ℕ) (least next to n : ℕ) → 0 < next → next ≤ to → to ≤ length bytes → n ≤ prefix_len base64_class (drop next (take to bytes))
-    → base64_class (slice_index bytes (next - 1)) ≡ true → NoRowFrom base64_class least bytes next (next + n)
-none_in_run bytes least next to n some ordered within run first =
-    let rest = drop next (take to bytes) in
-    let short = prefix_len-le-length base64_class rest in
-    row_inside base64_class bytes least next (next + n) some (omega (arith, run, short, length-drop next (take to bytes), length-take to bytes, ordered))
-    (λ k low high. elim (cases_lt next k) [
-      | inl behind ↦ (
-          let j = k - 1 - next in
-          let here : next + j ≡ k - 1 = omega (arith, behind) in
-          ap (λ i. base64_class (get_or bytes i 0)) (sym here)
-          ∙ ap base64_class (sym (get_or-drop next (take to bytes) j 0 ∙ get_or-take to bytes (next + j) 0 (omega (arith, behind, high, run, short, length-drop next (take to bytes), length-take to bytes))))
-          ∙ prefix_len_passes base64_class rest j 0 (omega (arith, behind, high, run)))
-      | inr same ↦ (
-          let e : k ≡ next = omega (arith, same, low) in
-          ap (λ i. base64_class (get_or bytes (i - 1) 0)) e ∙ first)
-    ])
+-- ---- where no letter stands
 
 -- no run begins where no letter stands
 pub none_at_stranger : (bytes : List ℕ) (place : ℕ) → base64_class (slice_index bytes place) ≡ false → begins_row base64_class LINE_LEAST (look_at bytes place) ≡ false
@@ -121,14 +100,6 @@ pub none_more : (bytes : List ℕ) (first place : ℕ) → NoRowFrom base64_clas
 none_more bytes first place none other k low high = elim (cases_lt k place) [
   | inl ahead ↦ none k low ahead
   | inr here ↦ (let e : k ≡ place = omega (arith, here, high) in rw e (none_at_stranger bytes place other))
-]
-
--- two ranges, one behind the other
-pub none_joined : (bytes : List ℕ) (least first middle end : ℕ) → NoRowFrom base64_class least bytes first middle → NoRowFrom base64_class least bytes middle end
-    → NoRowFrom base64_class least bytes first end
-none_joined bytes least first middle end one two place low high = elim (cases_lt place middle) [
-  | inl ahead ↦ one place low ahead
-  | inr behind ↦ two place behind high
 ]
 
 -- ---- a text that was found

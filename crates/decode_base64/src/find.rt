@@ -10,11 +10,11 @@ ghost use Rattle.sbuf_nest.specs.Runs.{NoRowFrom};
 ghost use Rattle.decode_base64.specs.Starts.{base64_starts};
 ghost use Rattle.decode_base64.specs.declared.TheConstants.{LINE_LEAST};
 
-use crate::letters::{Letters, letters_len};
-use crate::{LINE_LEAST, b64_text};
-use byte_kit::{NoMemory, is_base64};
+use crate::b64_text;
+use crate::letters::Letters;
+use byte_kit::NoMemory;
 use forensic_path::Decoder;
-use sbuf_nest::{Look, Places, Sbuf, Search, Start, Starts, find_marks, next_row};
+use sbuf_nest::{Look, Places, Sbuf, Search, Start, Starts, find_marks, next_row, past_run};
 
 /// Appends where the Base64 texts begin among the places that the buffer owns, in order of place; the
 /// extent is `b64_text` there. Its one refusal is want of memory, which leaves the first few of these
@@ -38,9 +38,9 @@ impl Search for TextSearch {
     // The next place where enough letters stand in a row, behind the run that `next` may stand in and the
     // line break behind it.
     fn next_places(&mut self, sb: &Sbuf, next: usize) -> Option<Places> {
-        let behind = past_run(sb.bytes, next, sb.own_to());
+        let behind = past_run::<Letters>(sb.bytes, next, sb.own_to());
         let from = past_break(sb.bytes, behind, sb.own_to());
-        let at = next_row::<Letters>(sb.bytes, from, sb.own_to(), LINE_LEAST);
+        let at = next_row::<Letters>(sb.bytes, from, sb.own_to());
         if at == sb.own_to() {
             return None;
         }
@@ -58,23 +58,6 @@ impl Search for TextSearch {
     ) -> Result<(), NoMemory> {
         starts.add_text(place, Decoder::Base64, b64_text(look))
     }
-}
-
-// The end of the run of letters that `next` stands in, or `next` where none began ahead of it. `next_row`
-// would look at each letter.
-fn past_run(bytes: &[u8], next: usize, to: usize) -> usize
-    requires ordered { next ≤ to }
-    requires within { to ≤ length bytes.now }
-    ensures low { next ≤ result }
-    ensures high { result ≤ to }
-    ensures none { NoRowFrom base64_class LINE_LEAST bytes.now next result }
-{
-    if next == 0 || !is_base64(bytes[next - 1]) {
-        return next;
-    }
-    let (seen, _) = bytes.split_at(to);
-    let (_, rest) = seen.split_at(next);
-    next + letters_len(rest)
 }
 
 // The place behind the bytes of a line break at `next`, if one stands there.

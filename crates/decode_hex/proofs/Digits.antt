@@ -16,8 +16,15 @@ use Rattle.sbuf_nest.specs.declared.mark.Extent.{Extent}
 use Rattle.sbuf_nest.proofs.ClassRuns.{prefix_len-take}
 use Rattle.decode_hex.specs.Hex.{paired, hex_extent, hex_run, hex_value, digit_number, IsText}
 use Rattle.decode_hex.specs.Starts.{hex_starts}
+use Rattle.vector_search.specs.Classes.{is_outside}
+use Rattle.decode_hex.specs.declared.run.TheConstants.{COLUMNS, ROWS}
 use Rattle.decode_hex.specs.declared.TheConstants.{DIGITS_LEAST, DIGITS_MOST}
 use Rattle.decode_hex.specs.declared.value.TheConstants.{NUMBERS}
+
+-- the tables tell the bytes that are no digits
+pub no_digit : (byte : ℕ) → byte < 256 → is_outside COLUMNS ROWS byte ≡ not (hex_class byte)
+unfolding hex_class
+no_digit byte small = agree_below_at (is_outside COLUMNS ROWS) (λ b. not (hex_class b)) 256 byte refl small
 
 -- ---- the run of a place
 

@@ -1,12 +1,13 @@
 // The search of a buffer for runs of hexadecimal digits.
 //
-// It costs a look at one byte of 32 where no digits stand, and at each byte of a run once or twice.
+// It costs one mask for sixteen bytes where no digits stand in a row, and each byte of a run is looked at two
+// or three times, sixteen at a time.
 ghost use Rattle.std.specs.Prelude.{◌≡◌, ◌++◌, OnOk, OnErr};
 ghost use Rattle.sbuf_nest.specs.Marks.{owned_marks, AppendsFirst};
 ghost use Rattle.decode_hex.specs.Starts.{hex_starts};
 
+use crate::hex_run;
 use crate::run::HexDigits;
-use crate::{DIGITS_LEAST, hex_run};
 use byte_kit::NoMemory;
 use forensic_path::Decoder;
 use sbuf_nest::{Look, Places, Sbuf, Search, Start, Starts, find_marks, next_row};
@@ -32,7 +33,7 @@ impl Search for HexSearch {
 
     // The next place with enough digits in a row, behind the run that `next` may stand in.
     fn next_places(&mut self, sb: &Sbuf, next: usize) -> Option<Places> {
-        let at = next_row::<HexDigits>(sb.bytes, next, sb.own_to(), DIGITS_LEAST);
+        let at = next_row::<HexDigits>(sb.bytes, next, sb.own_to());
         if at == sb.own_to() {
             return None;
         }

@@ -1,8 +1,8 @@
 -- Pairs in front of some bytes, and their values.
-use Rattle.std.proofs.Common.{◌≡◌, ◌≢◌, ◌∙◌, ℕ, zero, suc, ◌+◌, ◌*◌, ◌/◌, ◌<◌, ◌≤◌, Bool, true, false, ◌&&◌, eqb, cond, List, [], ◌∷◌, length, take, drop, min, get_or, Option, Some, None, refl, sym, ap, arith, length-drop}
+use Rattle.std.proofs.Common.{◌≡◌, ◌≢◌, ◌∙◌, ℕ, zero, suc, ◌+◌, ◌*◌, ◌/◌, ◌<◌, ◌≤◌, Bool, true, false, ◌&&◌, not, nat_eq, eqb, cond, List, [], ◌∷◌, length, take, drop, min, get_or, Option, Some, None, refl, sym, ap, arith, length-drop}
 use Rattle.std.specs.Prelude.{option_map}
 use Rattle.std.specs.Option.{option_map_or}
-use Rattle.std.proofs.lemmas.Bool.{eqb-true, ne_eqb}
+use Rattle.std.proofs.lemmas.Bool.{eqb-true, ne_eqb, false≢true}
 use Rattle.std.proofs.lemmas.List.{get_or-drop, drop-drop}
 use Rattle.byte_kit.specs.Classes.{printable_class}
 use Rattle.sbuf_nest.specs.declared.mark.Extent.{Extent}
@@ -14,6 +14,10 @@ use Rattle.decode_views.specs.declared.TheConstants.{PAIRS_MOST}
 pub and_false : (a b : Bool) → b ≡ false → (a && b) ≡ false
 and_false true b is = is
 and_false false b is = refl
+
+-- a byte is another one than 0, as a test says it
+pub other : (byte : ℕ) → not (nat_eq byte 0) ≡ true → byte ≢ 0
+other byte some is = false≢true (sym (ap (λ b. not (nat_eq b 0)) is) ∙ some)
 
 -- a byte other than 0 ends no pair
 pub ends_none : (byte second : ℕ) → second ≢ 0 → is_pair byte second ≡ false

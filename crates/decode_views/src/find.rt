@@ -89,14 +89,15 @@ fn next_run(bytes: &[u8], next: usize, to: usize) -> usize
 }
 
 // No pair stands at `at + 14` or `at + 15`, one of which belongs to any eight pairs that begin at one of the
-// sixteen places from `at` on. Mostly the two bytes that would be zero bytes tell, and they come first.
+// sixteen places from `at` on. Mostly the two bytes that would be zero bytes tell: they come first, and by one
+// branch, which random bytes nearly always take.
 #[inline(always)]
 fn is_far(bytes: &[u8], at: usize) -> bool
     requires { at + STRIDE < length bytes.now }
     ensures { IsTrue result → NoneFrom utf16_starts bytes.now at (at + STRIDE) }
 {
     let (first, middle, last) = (bytes[at + 14], bytes[at + 15], bytes[at + 16]);
-    if middle != 0 && last != 0 {
+    if (middle != 0) & (last != 0) {
         return true;
     }
     !is_pair(first, middle) && !is_pair(middle, last)

@@ -5,7 +5,7 @@ use Rattle.std.specs.Prelude.{nat_le, slice_index, slice_get}
 use Rattle.std.proofs.lemmas.Bool.{cases_lt, false≢true}
 use Rattle.std.proofs.lemmas.Bool.Decides.{nat_tests}
 use Rattle.std.proofs.lemmas.List.{get_or-drop, get_or-take, length-take}
-use Rattle.std.proofs.lemmas.List.Sums.{prefix_len_passes, prefix_len-le-length}
+use Rattle.std.proofs.lemmas.List.Sums.{prefix_len_passes}
 use Rattle.std.proofs.lemmas.Option.{slice_get-get_or}
 use Rattle.sbuf_nest.specs.Around.{look_at}
 use Rattle.sbuf_nest.specs.Edges.{begins_run}
@@ -70,8 +70,3 @@ module _ (class : ℕ → Bool) (bytes : List ℕ) where
         | inr few ↦ omega (arith, few)
       ]
       )
-
-  -- the bytes end ahead of so many
-  pub none_to_end : (least place : ℕ) → 1 ≤ least → least ≤ LOOK_AFTER → length bytes < place + least → begins_row class least (look_at bytes place) ≡ false
-  none_to_end least place some seen short =
-      few_in_row least place seen (omega (arith, prefix_len-le-length class (drop place bytes), length-drop place bytes))

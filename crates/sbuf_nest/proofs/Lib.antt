@@ -1,3 +1,4 @@
 pub mod MarkLists
 pub mod SearchSteps
 pub mod ClassRuns
+pub mod StrangerRows

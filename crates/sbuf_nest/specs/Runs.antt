@@ -1,5 +1,5 @@
 -- Where runs of bytes of a class begin.
-use Rattle.std.specs.Prelude.{◌≡◌, ℕ, ◌<◌, ◌≤◌, ◌&&◌, nat_le, Bool, false, List, length, slice_index}
+use Rattle.std.specs.Prelude.{◌≡◌, ℕ, ◌<◌, ◌≤◌, ◌&&◌, nat_le, Bool, false, List}
 use Rattle.std.specs.List.{prefix_len}
 use Rattle.sbuf_nest.specs.Around.{Around, look_at}
 use Rattle.sbuf_nest.specs.Edges.{begins_run}
@@ -12,7 +12,3 @@ begins_row class least look = begins_run class look && nat_le least (prefix_len 
 abbrev pub NoRowFrom : (ℕ → Bool) → ℕ → List ℕ → ℕ → ℕ → Type 0
 NoRowFrom class least bytes first end =
     (place : ℕ) → first ≤ place → place < end → begins_row class least (look_at bytes place) ≡ false
-
--- a byte of another class stands at the place
-abbrev pub IsStranger : (ℕ → Bool) → List ℕ → ℕ → Type 0
-IsStranger class bytes place = (place < length bytes) × (class (slice_index bytes place) ≡ false)

@@ -6,8 +6,8 @@
 //! A `Search` says what a place has, and which places have to be judged for it: a `Mark` of a feature,
 //! or the `Start` of an encoded text. `find_marks` appends what the owned places have to a `Found` or to
 //! `Starts`. Where texts are runs of a class of bytes, `ByteClass` names the class, `begins_run` and
-//! `run_len` say where a run begins and how long it is, and `next_row` passes over the places at which
-//! none begins. A `Trail` keeps the turns from the image into the buffer that is searched, and makes
+//! `run_len` say where a run begins and how long it is, and `past_run` and `next_row` pass over the places
+//! at which none begins, sixteen at a time. A `Trail` keeps the turns from the image into the buffer that is searched, and makes
 //! the paths of its places.
 //!
 //! The promise: a Look, and a part, is the buffer's own bytes, and none is a copy. A search appends
@@ -28,7 +28,7 @@ mod trail;
 pub use found::{Found, Items, Starts};
 pub use look::{LOOK_AFTER, LOOK_BEFORE, Look};
 pub use mark::{Extent, Mark, Start};
-pub use runs::{ByteClass, begins_run, next_row, run_len};
+pub use runs::{ByteClass, begins_run, next_row, past_run, run_len};
 pub use sbuf::Sbuf;
 pub use search::{Places, Search, find_marks};
 pub use trail::{Trail, Turn};

@@ -5,11 +5,12 @@ ghost use Rattle.sbuf_nest.specs.Marks.{marked};
 
 use crate::{
     ByteClass, Extent, Found, LOOK_AFTER, Look, Mark, Places, Sbuf, Search, Start, Starts,
-    begins_run, find_marks, next_row, run_len,
+    begins_run, find_marks, next_row, past_run, run_len,
 };
 use byte_kit::NoMemory;
 use forensic_path::{Decoder, Kind};
-use std::alloc::Global;
+use std::alloc::{AllocError, Global};
+use std::simd::prelude::*;
 use std::test::Fail;
 
 // The bytes on either side of place `i` are these.
@@ -298,10 +299,14 @@ impl ByteClass for Star {
     fn has(byte: u8) -> bool {
         byte == b'*'
     }
+
+    fn strangers(bytes: u8x16) -> u64 {
+        bytes.simd_ne(u8x16::splat(b'*')).to_bitmask()
+    }
 }
 
 // What stands ahead of a place, and whether a run of stars may begin there.
-const EDGES: [(&[u8], bool); 5] = [
+const EDGES: &[(&[u8], bool)] = &[
     (b"", true),
     (b".", true),
     (b"*", false),
@@ -310,11 +315,11 @@ const EDGES: [(&[u8], bool); 5] = [
 ];
 
 // Bytes, and how many stars stand in front.
-const RUNS: [(&[u8], usize); 5] = [(b"", 0), (b".*", 0), (b"*", 1), (b"**.*", 2), (b"***", 3)];
+const RUNS: &[(&[u8], usize)] = &[(b"", 0), (b".*", 0), (b"*", 1), (b"**.*", 2), (b"***", 3)];
 
 #[test]
 fn a_run_begins_behind_another_byte_and_goes_up_to_one(rt: HostRuntime) {
-    for (before, begins) in EDGES {
+    for &(before, begins) in EDGES {
         let after: &[u8] = b"*";
         assert_eq!(rt;
             begins_run::<Star>(&Look { before, after }),
@@ -322,42 +327,71 @@ fn a_run_begins_behind_another_byte_and_goes_up_to_one(rt: HostRuntime) {
             "behind {before:?}"
         );
     }
-    for (bytes, stars) in RUNS {
+    for &(bytes, stars) in RUNS {
         assert_eq!(rt; run_len::<Star>(bytes), stars, "in {bytes:?}");
     }
 }
 
-const STARS: &[u8] = b"..***.****";
+// So many bytes: stars but for dots at these places.
+fn stars(alloc: Global, length: usize, dots: &[usize]) -> Result<Vec<u8>, AllocError> {
+    let mut bytes = Vec::new(alloc);
+    bytes.resize(length, b'*')?;
+    for dot in dots {
+        if *dot < length {
+            bytes[*dot] = b'.';
+        }
+    }
+    Ok(bytes)
+}
 
-// Bytes, the places that are searched, how many stars a row has, and where the first row is.
-type RowsRow = (&'static [u8], usize, usize, usize, usize);
+// How many stars, the dots among them, the places that are searched, where the run ends in which the first
+// stands, and where the first row is.
+type RowsRow = (usize, &'static [usize], usize, usize, usize, usize);
 
-const ROWS: [RowsRow; 12] = [
-    (STARS, 0, 10, 1, 2),
-    (STARS, 0, 10, 3, 2),
-    (STARS, 2, 10, 3, 2),
-    (STARS, 3, 10, 3, 6),
-    (STARS, 0, 10, 4, 6),
-    (STARS, 0, 10, 5, 10),
-    (STARS, 0, 3, 3, 2),
-    (STARS, 0, 2, 3, 2),
-    (STARS, 7, 10, 3, 10),
-    (STARS, 0, 0, 1, 0),
-    (STARS, 10, 10, 1, 10),
-    (b"", 0, 0, 1, 0),
+const ROWS: &[RowsRow] = &[
+    (0, &[], 0, 0, 0, 0),
+    (31, &[], 0, 31, 0, 31),
+    (32, &[], 0, 32, 0, 0),
+    (32, &[], 1, 32, 32, 32),
+    (33, &[0], 0, 33, 0, 1),
+    (33, &[0], 1, 33, 1, 1),
+    (33, &[32], 0, 33, 0, 0),
+    (40, &[10], 0, 40, 0, 40),
+    (100, &[10, 60], 0, 100, 0, 11),
+    (100, &[10, 60], 0, 11, 0, 11),
+    (100, &[10, 60], 5, 100, 10, 11),
+    (100, &[10, 60], 5, 8, 8, 8),
+    (100, &[10, 60], 12, 100, 60, 61),
+    (100, &[10, 60], 61, 62, 61, 61),
+    (100, &[10, 69], 12, 100, 69, 100),
+    (100, &[10, 60], 100, 100, 100, 100),
+    (
+        200,
+        &[15, 31, 47, 63, 79, 95, 111, 127, 143],
+        0,
+        200,
+        0,
+        144,
+    ),
+    (200, &[20, 51, 83, 115, 147, 178], 0, 200, 0, 200),
+    (200, &[20, 51, 83, 116, 147, 178], 0, 200, 0, 84),
 ];
 
-fn is_row(row: RowsRow) -> bool {
-    let (bytes, next, to, least, at) = row;
-    if next > to || to > bytes.len() || least == 0 || least > LOOK_AFTER {
-        return false;
+fn is_row(alloc: Global, row: RowsRow) -> Result<bool, AllocError> {
+    let (length, dots, next, to, end, at) = row;
+    let bytes = stars(alloc, length, dots)?;
+    if next > to || to > bytes.len() {
+        return Ok(false);
     }
-    next_row::<Star>(bytes, next, to, least) == at
+    let is_end = past_run::<Star>(bytes.as_slice(), next, to) == end;
+    Ok(is_end && next_row::<Star>(bytes.as_slice(), next, to) == at)
 }
 
 #[test]
-fn a_row_is_found_where_its_run_begins(rt: HostRuntime) {
-    for row in ROWS {
-        assert!(rt; is_row(row), "from {} to {} of {}", row.1, row.2, row.3);
+fn a_row_is_found_where_its_run_begins(rt: HostRuntime) -> Result<(), Fail> {
+    for &row in ROWS {
+        let is_so = is_row(rt.alloc(), row)?;
+        assert!(rt; is_so, "of {} from {} to {}", row.0, row.2, row.3);
     }
+    Ok(())
 }

@@ -1,10 +1,11 @@
 -- Vectors lane by lane: lane k of a vector is what a function says of the place at + k.
-use Rattle.std.proofs.Common.{◌≡◌, ◌∙◌, ℕ, zero, suc, ◌+◌, ◌%◌, ◌^◌, ◌≤◌, Bool, true, false, ◌&&◌, ◌||◌, cond, List, [], ◌∷◌, map, length, get_or, replicate, bit_and, bit_or, refl, sym, ap, arith}
+use Rattle.std.proofs.Common.{◌≡◌, ◌∙◌, ℕ, zero, suc, ◌+◌, ◌%◌, ◌^◌, ◌<◌, ◌≤◌, Bool, true, false, ◌&&◌, ◌||◌, cond, List, [], ◌∷◌, map, length, get_or, replicate, bit_and, bit_or, refl, sym, ap, arith, w8, Fits}
 use Rattle.std.specs.List.{range_with_len}
+use Rattle.std.proofs.lemmas.List.{length-map}
 use Rattle.std.proofs.lemmas.List.FromFn.{length-range_with_len, length-map-range_with_len}
-use Rattle.std.proofs.lemmas.Simd.{map-map, mask_l-mod, pick_l-range_with_len, splat_is_map, zip2_of_maps}
-use lib.Lanes.{chunk, zip2, mask_l, top}
-use Rattle.vector_search.specs.Places.{mask_of}
+use Rattle.std.proofs.lemmas.Simd.{below_from_Fits, map-map, mask_l-mod, pick_l-range_with_len, splat_is_map, zip2_of_maps}
+use lib.Lanes.{Each1, chunk, zip2, mask_l, top}
+use Rattle.vector_search.specs.Places.{mask_of, bits_of}
 
 -- each lane has all bits where its place passes the test, and none where it fails
 abbrev pub IsMask : List ℕ → ℕ → (ℕ → Bool) → Type 0
@@ -82,3 +83,34 @@ bits_of_mask v at p test is same =
     ∙ same_map _ _ (λ place. top_lane (p place) ∙ same place) (range_with_len at 16) in
     ap (λ bits. mask_l bits % 2 ^ 64) tops
     ∙ mask_l-mod (map test (range_with_len at 16)) 64 (omega (arith, length-map-range_with_len test at 16))
+
+-- ---- by bytes
+
+-- the same function of bytes by other words
+pub same_of_bytes : {X : Type 0} (f g : ℕ → X) → ((byte : ℕ) → byte < 256 → f byte ≡ g byte) →
+    (bytes : List ℕ) → Each1 (λ byte. byte < 256) bytes → map f bytes ≡ map g bytes
+same_of_bytes f g same [] small = refl
+same_of_bytes f g same (byte ∷ bytes) small =
+    ap (λ first. first ∷ map f bytes) (same byte small.0) ∙ ap (λ rest. g byte ∷ rest) (same_of_bytes f g same bytes small.1)
+
+-- the bits of the bytes that pass, which may be said by other words
+pub bits_alike : (p test : ℕ → Bool) (bytes : List ℕ) → Each1 (Fits w8) bytes → ((byte : ℕ) → byte < 256 → p byte ≡ test byte) →
+    bits_of p bytes ≡ bits_of test bytes
+unfolding bits_of
+bits_alike p test bytes small same = ap mask_l (same_of_bytes p test same bytes (below_from_Fits w8 bytes small))
+
+-- the bits of a mask whose lanes are told by sixteen bytes
+pub bits_of_bytes : (v bytes : List ℕ) (p : ℕ → Bool) → length bytes ≡ 16 → v ≡ map (λ byte. cond (p byte) 255 0) bytes →
+    mask_l (map (top 7) v) % 2 ^ 64 ≡ bits_of p bytes
+unfolding bits_of
+bits_of_bytes v bytes p long is =
+    let tops : map (top 7) v ≡ map p bytes =
+    ap (map (top 7)) is ∙ map-map (top 7) (λ byte. cond (p byte) 255 0) bytes ∙ same_map _ _ (λ byte. top_lane (p byte)) bytes in
+    ap (λ bits. mask_l bits % 2 ^ 64) tops ∙ mask_l-mod (map p bytes) 64 (omega (arith, length-map bytes p, long))
+
+-- the bits of the bytes of sixteen places
+pub bits_of_places : (test : ℕ → Bool) (bytes : List ℕ) (at : ℕ) → at + 16 ≤ length bytes →
+    bits_of test (chunk at 16 bytes) ≡ mask_of (λ place. test (get_or bytes place 0)) at 16
+unfolding bits_of mask_of
+bits_of_places test bytes at fits =
+    ap (bits_of test) (loaded bytes at 16 fits) ∙ ap mask_l (map-map test (λ place. get_or bytes place 0) (range_with_len at 16))

@@ -1,3 +1,4 @@
+pub mod Broken
 pub mod Halves
 pub mod Lanes
 pub mod Masks

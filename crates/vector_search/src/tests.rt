@@ -1,7 +1,7 @@
-ghost use Rattle.std.specs.Prelude.{◌≡◌, ◌==◌, ◌&&◌, ◌+◌, ◌≤◌, length, slice_index};
+ghost use Rattle.std.specs.Prelude.{◌≡◌, ◌==◌, ◌&&◌, not, ◌+◌, ◌≤◌, length, slice_index};
 ghost use Rattle.vector_search.specs.Places.{mask_of};
 
-use crate::{LANES, PlaceTest, by_high_half, next_place};
+use crate::{LANES, PlaceTest, ROW, by_high_half, next_place, next_row, outside};
 use std::alloc::{AllocError, Global};
 use std::simd::prelude::*;
 use std::test::Fail;
@@ -136,4 +136,95 @@ fn a_byte_is_looked_up_by_its_high_half(rt: HostRuntime) {
     ];
     let found = by_high_half(table, u8x16::from_array(bytes));
     assert!(rt; found.to_array() == want);
+}
+
+// Capital letters by tables: columns 4 and 5 have them, of which the first has them from 1 on, and the other up to
+// 10.
+const CAPITAL_COLUMNS: [u8; 16] = [0, 0, 0, 0, 1, 2, 0, 0, 0, 0, 0, 0, 0, 0, 0, 0];
+
+const CAPITAL_ROWS: [u8; 16] = [2, 3, 3, 3, 3, 3, 3, 3, 3, 3, 3, 1, 1, 1, 1, 1];
+
+#[test]
+fn bytes_outside_of_a_class_are_told_by_tables(rt: HostRuntime) {
+    let bytes = *b"AZ@[az09OP_~\x00\x80\xc1Q";
+    let bits = outside(CAPITAL_COLUMNS, CAPITAL_ROWS, u8x16::from_array(bytes));
+    assert_eq!(rt; bits, 0b0111_1100_1111_1100);
+}
+
+// A byte other than a star.
+struct Stranger;
+
+impl PlaceTest for Stranger {
+    ghost passes = { λ _ bytes place. not (slice_index bytes place == 42) };
+
+    ghost REACH = { 0 };
+
+    const REACH: usize = 0;
+
+    fn mask(&self, bytes: &[u8], at: usize) -> u64 {
+        let seen = u8x16::from_slice(&bytes[at..]);
+        seen.simd_ne(u8x16::splat(b'*')).to_bitmask()
+    }
+
+    fn passes_at(&self, bytes: &[u8], place: usize) -> bool {
+        bytes[place] != b'*'
+    }
+}
+
+// A row stands at the place, as a plain look at each of its bytes tells.
+fn is_row(bytes: &[u8], place: usize) -> bool {
+    let (_, rest) = bytes.split_at(place.min(bytes.len()));
+    rest.len() >= ROW && rest[..ROW].iter().all(|byte| *byte == b'*')
+}
+
+// The first row is found from each of some places on and up to each of them, as a plain look at each place finds it.
+fn rows_are_found(bytes: &[u8], from: usize) -> bool {
+    let mut wanted = bytes.len();
+    for place in (from..bytes.len()).rev() {
+        if is_row(bytes, place) {
+            wanted = place;
+        }
+    }
+    for to in from..bytes.len() {
+        if next_row(&Stranger, bytes, from, to) != wanted.min(to) {
+            return false;
+        }
+    }
+    true
+}
+
+// So many bytes: stars but for dots at these places.
+fn dotted(alloc: Global, length: usize, dots: &[usize]) -> Result<Vec<u8>, AllocError> {
+    let mut bytes = Vec::new(alloc);
+    bytes.resize(length, b'*')?;
+    for dot in dots {
+        if *dot < length {
+            bytes[*dot] = b'.';
+        }
+    }
+    Ok(bytes)
+}
+
+// How many bytes, and where the dots among the stars stand.
+const DOTTED: &[(usize, &[usize])] = &[
+    (31, &[]),
+    (32, &[]),
+    (80, &[10, 41, 47]),
+    (180, &[15, 31, 47, 63, 79, 95, 111, 127, 143]),
+    (180, &[14, 46, 78, 110, 142]),
+    (180, &[16, 40, 71, 103, 135, 167]),
+    (180, &[30, 61, 92, 93, 94, 120, 150]),
+    (180, &[0, 31, 62, 63, 64, 65, 80, 81, 111, 112, 140]),
+];
+
+#[test]
+fn the_next_row_is_the_one_that_a_plain_look_finds(rt: HostRuntime) -> Result<(), Fail> {
+    for &(length, dots) in DOTTED {
+        let bytes = dotted(rt.alloc(), length, dots)?;
+        for from in 0..length {
+            let are_found = rows_are_found(bytes.as_slice(), from);
+            assert!(rt; are_found, "in {length} from {from}");
+        }
+    }
+    Ok(())
 }

@@ -1,13 +1,14 @@
 use Rattle.std.proofs.Common.{◌≡◌, ◌+◌, false, get_or}
-use Rattle.std.proofs.lemmas.Bool.{not-true}
+use Rattle.std.proofs.lemmas.Bool.{and_parts, not-true}
 use Rattle.decode_views.specs.Utf16.{is_pair}
-use Rattle.decode_views.proofs.Pairs.{ends_none}
+use Rattle.decode_views.proofs.Pairs.{ends_none, other}
 use Rattle.decode_views.proofs.PairPlaces.{none_far}
 use Rattle.decode_views.proofs.find.is_far.Goals as goal
 
-pub returns-then-last-ne0 : goal.returns-then-last-ne0
-returns-then-last-ne0 c = λ _.
-    none_far c.args.bytes.now c.args.at (ends_none _ _ c.if-middle-ne0.true) (ends_none _ _ c.if-last-ne0.true)
+pub returns-then-middle-last : goal.returns-then-middle-last
+returns-then-middle-last c = λ _.
+    let both = and_parts _ _ c.if-middle-last.true in
+    none_far c.args.bytes.now c.args.at (ends_none _ _ (other _ both.0)) (ends_none _ _ (other _ both.1))
 
 pub returns-then-not-is_pair : goal.returns-then-not-is_pair
 returns-then-not-is_pair c = λ both.

@@ -1,0 +1,83 @@
+// The search for the next row: many places one behind the other none of which passes a test of strangers.
+//
+// A row from any of sixteen places on has all places of one mask, which begins at the last of them. Where
+// that mask shows a stranger, all sixteen are passed over. Strangers stand dense in most bytes, so a step
+// looks at four such masks and branches once, by a stride that no mask decides: a load that waits for the
+// mask ahead of it is several times slower.
+ghost use Rattle.std.specs.Prelude.{◌≡◌, ◌+◌, ◌≤◌, length, IsTrue};
+ghost use Rattle.vector_search.specs.Rows.{NoRowIn, IsNextRow};
+
+use crate::{LANES, PlaceTest};
+
+/// How many places a row has.
+pub const ROW: usize = 2 * LANES;
+
+// How many places a step passes over.
+const STEP: usize = 4 * LANES;
+
+// How far the first mask of a step stands behind the first place that is passed over.
+const LAST: usize = LANES - 1;
+
+/// The first place from `from` up to `to` at which a row stands, or `to` where none does: the `ROW` places
+/// from it on lie within the bytes, behind `to` too, and none of them passes the test. It asks for a test
+/// that reads a place's own byte alone.
+#[inline(always)]
+pub fn next_row<T: PlaceTest>(strangers: &T, bytes: &[u8], from: usize, to: usize) -> usize
+    requires ordered { from ≤ to }
+    requires within { to ≤ length bytes.now }
+    requires alone { T.REACH ≡ 0 }
+    ensures { IsNextRow (T.passes strangers.now bytes.now) (length bytes.now) from to result }
+{
+    let length = bytes.len();
+    let mut at = from;
+    while at < to && length - at >= ROW {
+        let late = strangers.mask(bytes, at + LANES);
+        if late != 0 {
+            let behind = at + LANES + 1 + late.trailing_zeros() as usize;
+            at = past_broken(strangers, bytes, behind, to);
+            continue;
+        }
+        let early = strangers.mask(bytes, at);
+        if early == 0 {
+            return at;
+        }
+        at += 1 + early.trailing_zeros() as usize;
+    }
+    to
+}
+
+// A place from `from` on ahead of which, from `from` on, no row stands. It goes no further than a step behind
+// `to`.
+#[inline(always)]
+fn past_broken<T: PlaceTest>(strangers: &T, bytes: &[u8], from: usize, to: usize) -> usize
+    requires within { from ≤ length bytes.now }
+    requires alone { T.REACH ≡ 0 }
+    ensures low { from ≤ result }
+    ensures high { result ≤ length bytes.now }
+    ensures none { NoRowIn (T.passes strangers.now bytes.now) (length bytes.now) from result }
+{
+    let length = bytes.len();
+    let mut wide = from;
+    while wide < to && length - wide >= STEP + LAST && are_broken(strangers, bytes, wide) {
+        wide += STEP;
+    }
+    let mut at = wide;
+    while at < to && length - at >= LANES + LAST && strangers.mask(bytes, at + LAST) != 0 {
+        at += LANES;
+    }
+    at
+}
+
+// No row stands at one of the places of a step.
+#[inline(always)]
+fn are_broken<T: PlaceTest>(strangers: &T, bytes: &[u8], at: usize) -> bool
+    requires within { at + STEP + LAST ≤ length bytes.now }
+    requires alone { T.REACH ≡ 0 }
+    ensures { IsTrue result → NoRowIn (T.passes strangers.now bytes.now) (length bytes.now) at (at + STEP) }
+{
+    let first = strangers.mask(bytes, at + LAST);
+    let second = strangers.mask(bytes, at + LAST + LANES);
+    let third = strangers.mask(bytes, at + LAST + 2 * LANES);
+    let fourth = strangers.mask(bytes, at + LAST + 3 * LANES);
+    (first != 0) & (second != 0) & (third != 0) & (fourth != 0)
+}
