@@ -22,4 +22,6 @@ pub const LINE_LEAST: usize = 32;
 pub const LETTERS_MOST: usize = 65536;
 
 #[cfg(test)]
+mod find_tests;
+#[cfg(test)]
 mod tests;

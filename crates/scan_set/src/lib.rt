@@ -38,6 +38,8 @@ pub use tools::Tools;
 #[cfg(test)]
 mod border_tests;
 #[cfg(test)]
+mod context_tests;
+#[cfg(test)]
 mod level_tests;
 #[cfg(test)]
 mod nesting_tests;
