@@ -17,11 +17,11 @@ pub(crate) fn hash_of(bytes: &[u8]) -> u64
 pub(crate) fn hash_more(hash: u64, bytes: &[u8]) -> u64
     ensures { result ≡ hash_more hash bytes.now }
 {
-    let mut hash = hash;
+    let mut state = hash;
     for byte in bytes {
-        hash = hash_step(hash, *byte);
+        state = hash_step(state, *byte);
     }
-    hash
+    state
 }
 
 #[inline]

@@ -1,5 +1,5 @@
 // A line of a list: which entry it names, if any.
-ghost use Rattle.std.specs.Prelude.{◌≡◌, [], ◌∷◌, ◌++◌, option_to_list, IfSome, IfNone, OnOk};
+ghost use Rattle.std.specs.Prelude.{◌≡◌, [], ◌∷◌, ◌++◌, option_to_list, position, IfSome, IfNone, OnOk};
 ghost use Rattle.std.specs.List.{slice_split};
 ghost use Rattle.std.specs.Str.Lines.{strip_carriage_return};
 ghost use Rattle.stop_lists.specs.Lists.{entry_in, is_tab};
@@ -56,7 +56,14 @@ fn cut_at_tab(text: &[u8]) -> Option<(&[u8], &[u8])>
         (λ cut. slice_split is_tab text.now ≡ cut.0.now ∷ slice_split is_tab cut.1.now) }
     ensures none { IfNone result (slice_split is_tab text.now ≡ text.now ∷ []) }
 {
-    let at = text.iter().position(|byte| *byte == b'\t')?;
+    let at = first_tab(text)?;
     let (front, rest) = text.split_at(at);
     Some((front, rest.split_at(1).1))
+}
+
+// The index of the first TAB.
+fn first_tab(text: &[u8]) -> Option<usize>
+    ensures { result ≡ position is_tab text.now }
+{
+    text.iter().position(|byte| *byte == b'\t')
 }

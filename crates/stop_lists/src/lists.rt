@@ -52,6 +52,7 @@ impl Lists {
     /// otherwise [`Class::Stopped`] where one of the stop list does, and [`Class::Plain`] where none does.
     /// An entry meets a feature of any kind with equal bytes, and one that has a context meets it in that
     /// context alone. It takes no memory.
+    #[tactic(auto, unfolding(crate::specs::Lists::class_under))]
     pub fn class_of(&self, feature: &[u8], context: &[u8]) -> Class
         ensures { result ≡ class_under self.now.stop self.now.alert feature.now context.now }
     {

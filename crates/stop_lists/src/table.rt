@@ -1,11 +1,12 @@
 // The table of a list: its entries, and the slots by which they are found. There are two buckets an entry, and a bucket
 // is a slot; an entry whose slot is taken stands in the next empty one, behind the last bucket if need be. So a search ends
 // at the first empty slot, mostly in the cache line that it began in.
-ghost use Rattle.std.specs.Prelude.{◌≡◌, ◌==◌, ◌||◌, length, option_copied, IfOk};
+ghost use Rattle.std.specs.Prelude.{◌≡◌, ◌<◌, ◌==◌, Some, None, length, option_copied, IfOk};
 ghost use Rattle.std.specs.List.{list_any};
 ghost use Rattle.stop_lists.specs.Lists.{entries_of, meets};
 ghost use Rattle.stop_lists.specs.Hash.{hash_of, key_of};
 ghost use Rattle.stop_lists.specs.Places.{is_entry};
+ghost use Rattle.stop_lists.specs.Buckets.{IsTable};
 
 use crate::buckets::{EMPTY, Slot, first_empty, put};
 use crate::entries::Entries;
@@ -53,20 +54,7 @@ impl Table {
         ensures { IfOk result (λ table. table ≡ entries) }
     {
         let count = entries.len().saturating_mul(2);
-        let mut slots = Vec::new(alloc);
-        slots.resize(count, EMPTY)?;
-        for index in 0..entries.len() {
-            let hash = entries.hash_at(index);
-            let at = first_empty(slots.as_slice(), home_of(hash, count));
-            put(
-                &mut slots,
-                at,
-                Slot {
-                    hash,
-                    number: index + 1,
-                },
-            )?;
-        }
+        let slots = slots_of(alloc, &entries, count)?;
         Ok(Table {
             entries,
             count,
@@ -83,6 +71,7 @@ impl Table {
 
     // Whether an entry meets a feature in a context, whose hash without the context is the first, and with it
     // the second.
+    #[tactic(auto, using(crate::proofs::Search::meets_by_either))]
     pub(crate) fn meets(
         &self,
         alone: u64,
@@ -116,4 +105,20 @@ impl Table {
         }
         false
     }
+}
+
+// The slots of entries, with so many buckets. Its one refusal is want of memory.
+fn slots_of(alloc: Global, entries: &Entries, count: usize) -> Result<Vec<Slot>, NoMemory>
+    requires { 0 < length entries.now → 0 < count }
+    ensures { IfOk result (λ slots. IsTable entries.now count slots.items) }
+{
+    let mut slots = Vec::new(alloc);
+    slots.resize(count, EMPTY)?;
+    for index in 0..entries.len() {
+        let hash = entries.hash_at(index);
+        let at = first_empty(slots.as_slice(), home_of(hash, count));
+        let number = index + 1;
+        put(&mut slots, at, Slot { hash, number })?;
+    }
+    Ok(slots)
 }
