@@ -1,8 +1,8 @@
 -- Bytes that are appended leave the entries ahead of them as they were, and hold a new one.
 use Rattle.std.specs.Prelude.{◌≡◌, ℕ, ◌+◌, ◌≤◌, List, [], ◌∷◌, ◌++◌, Option, Some, None, length, take, drop, map, refl}
 use Rattle.std.specs.List.{All}
-use Rattle.std.proofs.Common.{sym, ◌∙◌, ap, arith, append_assoc}
-use Rattle.std.proofs.lemmas.List.{drop-append-le, take-append-le, length-drop, length-append, drop_at, take_at, take_all, map_push}
+use Rattle.std.proofs.Common.{◌∙◌, ap, arith, append_assoc}
+use Rattle.std.proofs.lemmas.List.{drop-append-le, take-append-le, length-drop, drop_at, take_at, take_all, map_push}
 use Rattle.std.proofs.lemmas.List.Elements.{All-tail}
 use Rattle.stop_lists.specs.declared.entries.Place.{Place}
 use Rattle.stop_lists.specs.Lists.{Entry}
@@ -63,7 +63,7 @@ within_added bytes feature context places within =
     let rest = ap (drop (length bytes)) same ∙ drop_at bytes (feature ++ context) (length bytes) refl in
     let first = ap (take (length feature)) rest ∙ take_at feature context (length feature) refl in
     let second = ap (λ more. take (length context) (drop (length feature) more)) rest
-        ∙ (ap (take (length context)) (drop_at feature context (length feature) refl) ∙ take_all (length context) context (omega arith)) in
+    ∙ (ap (take (length context)) (drop_at feature context (length feature) refl) ∙ take_all (length context) context (omega arith)) in
     map_push (entry_at ((bytes ++ feature) ++ context)) places new ∙ cc
 
 -- the same, as they are put

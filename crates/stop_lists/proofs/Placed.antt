@@ -1,6 +1,6 @@
 -- A slot that is put where an entry's search ends: the entry is found there, and each other one where it was.
-use Rattle.std.specs.Prelude.{◌≡◌, ◌≢◌, ℕ, ◌+◌, ◌<◌, ◌≤◌, List, [], length, replicate, slice_index_or, refl}
-use Rattle.std.proofs.Common.{inl, inr, sym, ◌∙◌, ap, arith, subst, get_or}
+use Rattle.std.specs.Prelude.{◌≡◌, ◌≢◌, ℕ, ◌+◌, ◌<◌, List, replicate, slice_index_or}
+use Rattle.std.proofs.Common.{inl, inr, sym, ◌∙◌, ap, arith, subst}
 use Rattle.std.proofs.lemmas.Bool.{cases_eq, cases_lt}
 use Rattle.std.proofs.lemmas.List.{get_or-replicate, get_or_past, length-replicate}
 use Rattle.stop_lists.specs.declared.buckets.Slot.{Slot}
@@ -70,6 +70,9 @@ pub none_numbered : (count : ℕ) → HasNumbersTo (replicate count (record { ha
 none_numbered count k =
     elim (cases_lt k count) [
       | inl below ↦ omega (arith, ap (λ (s : Slot). s.number) (get_or-replicate count k (record { hash = 0; number = 0 }) (record { hash = 0; number = 0 }) below))
-      | inr above ↦ omega (arith, ap (λ (s : Slot). s.number)
-          (get_or_past (replicate count (record { hash = 0; number = 0 })) k (record { hash = 0; number = 0 }) (omega (arith, length-replicate count (let e : Slot = record { hash = 0; number = 0 } in e)))))
+      | inr above ↦ omega (
+        arith,
+        ap (λ (s : Slot). s.number)
+            (get_or_past (replicate count (record { hash = 0; number = 0 })) k (record { hash = 0; number = 0 }) (omega (arith, length-replicate count (let e : Slot = record { hash = 0; number = 0 } in e)))),
+      )
     ]

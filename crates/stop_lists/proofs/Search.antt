@@ -41,12 +41,12 @@ absent entries count slots feature context hash at k d passed from_home empty fo
     elim (cases_order found.at at) [
       | inl same ↦ omega (arith, ap (λ n. (slot_at slots n).number) same, found.number_is)
       | inr apart ↦ elim apart [
-          | inl before ↦
-              let other = passed.others found.at d found.from_home before found.hash_is in
-              let index : (slot_at slots found.at).number - 1 ≡ k = omega (arith, found.number_is) in
-              both_ways _ (ap (λ n. is_entry feature context (slice_index_or entries n d)) (sym index) ∙ other) is
-          | inr behind ↦ omega (arith, found.before at from_home behind)
-        ]
+        | inl before ↦
+            let other = passed.others found.at d found.from_home before found.hash_is in
+            let index : (slot_at slots found.at).number - 1 ≡ k = omega (arith, found.number_is) in
+            both_ways _ (ap (λ n. is_entry feature context (slice_index_or entries n d)) (sym index) ∙ other) is
+        | inr behind ↦ omega (arith, found.before at from_home behind)
+      ]
     ]
 
 pub not_there : (entries : List Entry) (count : ℕ) (slots : List Slot) (feature : List ℕ) (context : Option (List ℕ)) (hash at : ℕ)
@@ -80,5 +80,5 @@ meets_by_either feature context (entry ∷ entries) =
     let first = either (bytes_eq entry.feature feature) entry.context context in
     let rest = meets_by_either feature context entries in
     let all = regroup (is_entry feature None entry) (is_entry feature (Some context) entry) (list_any (is_entry feature None) entries)
-        (list_any (is_entry feature (Some context)) entries) in
+    (list_any (is_entry feature (Some context)) entries) in
     cc

@@ -11,7 +11,7 @@ ghost use Rattle.stop_lists.specs.Buckets.{IsTable};
 use crate::buckets::{EMPTY, Slot, first_empty, put};
 use crate::entries::Entries;
 use crate::hash::home_of;
-use crate::line::add_line;
+use crate::line::{add_line, cut_at};
 use byte_kit::NoMemory;
 use std::alloc::Global;
 use std::marker::Model;
@@ -43,9 +43,12 @@ impl Table {
         ensures { IfOk result (λ table. table ≡ entries_of list.now) }
     {
         let mut entries = Entries::make(alloc);
-        for line in list.split(|byte| *byte == b'\n') {
+        let mut rest = list;
+        while let Some((line, more)) = cut_at(rest, b'\n') {
             add_line(alloc, line, &mut entries)?;
+            rest = more;
         }
+        add_line(alloc, rest, &mut entries)?;
         Table::of(alloc, entries)
     }
 
@@ -72,13 +75,7 @@ impl Table {
     // Whether an entry meets a feature in a context, whose hash without the context is the first, and with it
     // the second.
     #[tactic(auto, using(crate::proofs::Search::meets_by_either))]
-    pub(crate) fn meets(
-        &self,
-        alone: u64,
-        within: u64,
-        feature: &[u8],
-        context: &[u8],
-    ) -> bool
+    pub(crate) fn meets(&self, alone: u64, within: u64, feature: &[u8], context: &[u8]) -> bool
         requires alone { alone ≡ hash_of (key_of feature.now None) }
         requires within { within ≡ hash_of (key_of feature.now (Some context.now)) }
         ensures { result ≡ list_any (meets feature.now context.now) self.now }

@@ -38,7 +38,7 @@ pub returns : goal.returns
 returns c =
     let t = c.self.inside in
     let is_empty : (slot_at t.slots.items c.loop-at.at).number ≡ 0 =
-        ap (λ (s : Slot). s.number) (get_or_past t.slots.items c.loop-at.at empty (omega (arith, t.slots.ok.0, c.len-at-end.ensures, c.loop-at-test.false))) in
+    ap (λ (s : Slot). s.number) (get_or_past t.slots.items c.loop-at.at empty (omega (arith, t.slots.ok.0, c.len-at-end.ensures, c.loop-at-test.false))) in
     let from_home : home_of c.args.hash t.count ≤ c.loop-at.at = omega (arith, c.home_of-at.ensures.home, c.loop-at.auto.at) in
     rw (← c.self.view_is) (sym (not_there t.entries t.count t.slots.items c.args.feature.now (option_copied c.args.context) c.args.hash c.loop-at.at
     c.self.invariant c.requires c.loop-at.invariant from_home is_empty))
