@@ -1,1 +1,4 @@
+pub mod Buckets
+pub mod Hash
 pub mod Lists
+pub mod Places

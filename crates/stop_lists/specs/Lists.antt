@@ -41,6 +41,11 @@ entry_in line = if is_passed line then None else entry_of (slice_split is_tab li
 unfoldable pub entries_of : List ℕ → List Entry
 entries_of list = filter_map (λ line. entry_in (strip_carriage_return line)) (slice_split is_line_end list)
 
+-- the entries of a stop list and of an alert list
+pub record ListEntries : Type 0 where
+  pub stop : List Entry
+  pub alert : List Entry
+
 -- an entry without a context meets a feature in every context
 abbrev pub meets_context : List ℕ → Option (List ℕ) → Bool
 meets_context context None = true
