@@ -41,29 +41,34 @@ least() {
     echo "$best"
 }
 
-# The time to look up a line of a file in these lists, in nanoseconds.
+# The time to look up a line of a file in these lists, in nanoseconds, its reading included.
 look_up() {
-    local spent=$(($(least "$1" "$2" "$3" 1 4) - $(least "$1" "$2" "$3" 1 1)))
-    awk -v ms="$spent" -v lines="$(wc -l < "$3")" 'BEGIN { printf "%.0f", ms * 1000000 / 3 / lines }'
+    local spent=$(($(least "$1" "$2" "$3" 1) - $(least "$1" "$2" "$work/none" 1)))
+    awk -v ms="$spent" -v lines="$(wc -l < "$3")" 'BEGIN { printf "%.0f", ms * 1000000 / lines }'
 }
 
 # A row: the times of a stop list and an alert list, and of these hits.
 row() {
     local name=$1 stop=$2 alert=$3 hits=$4 read
-    read=$(($(least "$stop" "$alert" "$work/none" 3 0) - $(least "$stop" "$alert" "$work/none" 1 0)))
+    read=$(($(least "$stop" "$alert" "$work/none" 3) - $(least "$stop" "$alert" "$work/none" 1)))
     printf '%-10s %8d %8s %8s\n' "$name" $((read / 2)) \
         "$(look_up "$stop" "$alert" "$hits")" "$(look_up "$stop" "$alert" "$work/misses")"
 }
 
+# The lines of a file four times, each time in another order.
+mixed() { for _ in 1 2 3 4; do shuf "$1"; done; }
+
 features 'h%07d.ex.com' > "$work/stop"
 features 'other%07d.co' > "$work/alert"
-features 'thing%07d.co' | shuf > "$work/misses"
-shuf "$work/stop" > "$work/hits"
+features 'thing%07d.co' > "$work/others"
 awk -v n="$ENTRIES" 'NR <= n / 2 { print $0 "\t" $0 }' "$work/stop" > "$work/pairs"
-cut -f 1 "$work/pairs" | shuf > "$work/halves"
+cut -f 1 "$work/pairs" > "$work/half"
+mixed "$work/stop" > "$work/hits"
+mixed "$work/half" > "$work/half_hits"
+mixed "$work/others" > "$work/misses"
 : > "$work/none"
 
 printf '%-10s %8s %8s %8s\n' list 'read ms' 'hit ns' 'miss ns'
 row features "$work/stop" "$work/none" "$work/hits"
-row contexts "$work/pairs" "$work/none" "$work/halves"
+row contexts "$work/pairs" "$work/none" "$work/half_hits"
 row both "$work/stop" "$work/alert" "$work/hits"

@@ -1,7 +1,7 @@
-//! `list_speed STOP ALERT FEATURES READS TIMES` reads a stop list and an alert list so many times, then looks
-//! up each line of a file of features so many times, with itself as the context, and prints how many a run
-//! finds in the lists. The difference in time between few runs and many is the speed of the calls themselves,
-//! without the start of a program and the reading of a file.
+//! `list_speed STOP ALERT FEATURES READS` reads a stop list and an alert list so many times, then looks up each
+//! line of a file of features, with itself as the context, and prints how many the lists have. The
+//! difference in time between few reads and many is the speed of a read, and that between many features and
+//! none the speed of a look-up, without the start of a program (`bench/lists.sh`).
 #![tactic(auto)]
 
 use anyhow::{Context, Result, bail};
@@ -25,11 +25,10 @@ fn main(rt: HostRuntime) -> Result<()> {
     for word in env::args(&rt)?.skip(1) {
         words.push(word)?;
     }
-    let [stop, alert, features, reads, times] = words.as_slice() else {
-        bail!("usage: list_speed STOP ALERT FEATURES READS TIMES");
+    let [stop, alert, features, reads] = words.as_slice() else {
+        bail!("usage: list_speed STOP ALERT FEATURES READS");
     };
     let reads = reads.parse::<u64>().context("reading the number of reads")?;
-    let times = times.parse::<u64>().context("reading the number of times")?;
     let stop = fs::read(&rt, stop.as_str()).context("reading the stop list")?;
     let alert = fs::read(&rt, alert.as_str()).context("reading the alert list")?;
     let features = fs::read(&rt, features.as_str()).context("reading the features")?;
@@ -37,10 +36,6 @@ fn main(rt: HostRuntime) -> Result<()> {
     for _ in 0..reads {
         lists = Lists::read(rt.alloc(), stop.as_slice(), alert.as_slice())?;
     }
-    let mut met = 0;
-    for _ in 0..times {
-        met = count_met(&lists, features.as_slice());
-    }
-    println!(rt; "{met}")?;
+    println!(rt; "{}", count_met(&lists, features.as_slice()))?;
     Ok(())
 }

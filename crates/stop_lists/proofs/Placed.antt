@@ -1,8 +1,7 @@
 -- A slot that is put where an entry's search ends: the entry is found there, and each other one where it was.
-use Rattle.std.specs.Prelude.{◌≡◌, ◌≢◌, ℕ, ◌+◌, ◌<◌, List, replicate, slice_index_or}
+use Rattle.std.specs.Prelude.{◌≡◌, ◌≢◌, ℕ, ◌+◌, ◌<◌, List, slice_index_or}
 use Rattle.std.proofs.Common.{inl, inr, sym, ◌∙◌, ap, arith, subst}
-use Rattle.std.proofs.lemmas.Bool.{cases_eq, cases_lt}
-use Rattle.std.proofs.lemmas.List.{get_or-replicate, get_or_past, length-replicate}
+use Rattle.std.proofs.lemmas.Bool.{cases_eq}
 use Rattle.stop_lists.specs.declared.buckets.Slot.{Slot}
 use Rattle.stop_lists.specs.Lists.{Entry}
 use Rattle.stop_lists.specs.Hash.{entry_hash, home_of}
@@ -63,16 +62,4 @@ found_more {old} {new} {at} {slot} is entries count index number hash first foun
           subst (λ (n : ℕ). IsFound new (home_of (entry_hash (slice_index_or entries k d)) count) (entry_hash (slice_index_or entries k d)) n) number_here
           (subst (λ (h : ℕ). IsFound new (home_of h count) h slot.number) hash_here here)
       | inr other ↦ found_kept is first.empty (omega arith) _ _ (k + 1) (omega arith) (found k d (omega arith))
-    ]
-
--- a table of empty slots has no number
-pub none_numbered : (count : ℕ) → HasNumbersTo (replicate count (record { hash = 0; number = 0 })) 0
-none_numbered count k =
-    elim (cases_lt k count) [
-      | inl below ↦ omega (arith, ap (λ (s : Slot). s.number) (get_or-replicate count k (record { hash = 0; number = 0 }) (record { hash = 0; number = 0 }) below))
-      | inr above ↦ omega (
-        arith,
-        ap (λ (s : Slot). s.number)
-            (get_or_past (replicate count (record { hash = 0; number = 0 })) k (record { hash = 0; number = 0 }) (omega (arith, length-replicate count (let e : Slot = record { hash = 0; number = 0 } in e)))),
-      )
     ]

@@ -1,4 +1,4 @@
--- The hash of an entry: FNV-1a with 64 bits (RFC 9923) of the bytes of its feature and its context.
+-- The hash of an entry: FNV-1a with 64 bits (Fowler, Noll and Vo) of the bytes of its feature and its context.
 use Rattle.std.specs.Prelude.{ℕ, ◌*◌, ◌/◌, ◌%◌, ◌^◌, Option, List, [], ◌++◌, unwrap_or, bit_xor}
 use Rattle.std.specs.List.{fold}
 use Rattle.stop_lists.specs.Lists.{Entry}

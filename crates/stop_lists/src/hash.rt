@@ -1,4 +1,4 @@
-// The hash by which entries are found: FNV-1a with 64 bits (RFC 9923, section 2), which has no key.
+// The hash by which entries are found: FNV-1a with 64 bits (Fowler, Noll and Vo), which has no key.
 ghost use Rattle.std.specs.Prelude.{◌≡◌, ◌<◌};
 ghost use Rattle.stop_lists.specs.Hash.{hash_start, hash_step, hash_more, hash_of, home_of};
 

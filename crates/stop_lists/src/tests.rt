@@ -66,28 +66,44 @@ const ROWS: &[(&[u8], &[u8], &[u8], bool)] = &[
     ),
 ];
 
-// A list alone gives a feature it meets its class, as a stop list and as an alert list.
-fn is_classed(
+// The class of a feature in a context under a stop list and an alert list.
+fn class_under(
     alloc: Global,
-    list: &[u8],
+    stop: &[u8],
+    alert: &[u8],
     feature: &[u8],
     context: &[u8],
-    is_met: bool,
-) -> Result<bool, NoMemory> {
-    let stops = Lists::read(alloc, list, b"")?.class_of(feature, context);
-    let alerts = Lists::read(alloc, b"", list)?.class_of(feature, context);
-    if is_met {
-        Ok(stops == Class::Stopped && alerts == Class::Alert)
-    } else {
-        Ok(stops == Class::Plain && alerts == Class::Plain)
-    }
+) -> Result<Class, NoMemory> {
+    let lists = Lists::read(alloc, stop, alert)?;
+    Ok(lists.class_of(feature, context))
 }
 
 #[test]
 fn a_line_names_a_feature_and_maybe_its_context(rt: HostRuntime) -> Result<(), Fail> {
     for &(list, feature, context, is_met) in ROWS {
+        let class = class_under(rt.alloc(), list, b"", feature, context)?;
         assert!(rt;
-            is_classed(rt.alloc(), list, feature, context, is_met)?,
+            (class == Class::Stopped) == is_met,
+            "at {list:?} {feature:?}"
+        );
+        assert!(rt;
+            (class == Class::Plain) != is_met,
+            "at {list:?} {feature:?}"
+        );
+    }
+    Ok(())
+}
+
+#[test]
+fn an_alert_list_is_read_alike(rt: HostRuntime) -> Result<(), Fail> {
+    for &(list, feature, context, is_met) in ROWS {
+        let class = class_under(rt.alloc(), b"", list, feature, context)?;
+        assert!(rt;
+            (class == Class::Alert) == is_met,
+            "at {list:?} {feature:?}"
+        );
+        assert!(rt;
+            (class == Class::Plain) != is_met,
             "at {list:?} {feature:?}"
         );
     }
@@ -114,32 +130,31 @@ const BOTH: &[(&[u8], &[u8], Class)] = &[
 #[test]
 fn an_alert_beats_a_stop(rt: HostRuntime) -> Result<(), Fail> {
     for &(stop, alert, class) in BOTH {
-        let lists = Lists::read(rt.alloc(), stop, alert)?;
-        let found = lists.class_of(b"example.com", b"see http://example.com/a b");
+        let context = b"see http://example.com/a b";
+        let found = class_under(rt.alloc(), stop, alert, b"example.com", context)?;
         assert!(rt; found == class, "at {stop:?} {alert:?}");
     }
     Ok(())
 }
 
-// A list of so many numbers, each in a context that is its double.
+// A list of so many numbers, each in a context that is the number.
 fn numbers(alloc: Global, count: u64) -> Result<Vec<u8>, NoMemory> {
     let mut list = Vec::new(alloc);
     for number in 0..count {
         dec_into(number, &mut list)?;
-        list.push(b'\t')?;
-        dec_into(number.wrapping_mul(2), &mut list)?;
-        list.push(b'\n')?;
+        list.extend_from_slice(b"\t")?;
+        dec_into(number, &mut list)?;
+        list.extend_from_slice(b"\n")?;
     }
     Ok(list)
 }
 
-// The class of a number in the context of another.
-fn class_of(alloc: Global, lists: &Lists, number: u64, context: u64) -> Result<Class, NoMemory> {
-    let mut feature = Vec::new(alloc);
-    dec_into(number, &mut feature)?;
-    let mut around = Vec::new(alloc);
-    dec_into(context, &mut around)?;
-    Ok(lists.class_of(feature.as_slice(), around.as_slice()))
+// The list has the number in the context of itself, and in no other.
+fn is_stopped(alloc: Global, lists: &Lists, number: u64) -> Result<bool, NoMemory> {
+    let mut text = Vec::new(alloc);
+    dec_into(number, &mut text)?;
+    let text = text.as_slice();
+    Ok(lists.class_of(text, text) == Class::Stopped && lists.class_of(text, b"") == Class::Plain)
 }
 
 #[test]
@@ -147,10 +162,8 @@ fn each_entry_of_a_long_list_is_found(rt: HostRuntime) -> Result<(), Fail> {
     let list = numbers(rt.alloc(), 3_000)?;
     let lists = Lists::read(rt.alloc(), list.as_slice(), b"")?;
     for number in 0..6_000u64 {
-        let own = class_of(rt.alloc(), &lists, number, number * 2)?;
-        let other = class_of(rt.alloc(), &lists, number, number * 2 + 1)?;
-        assert!(rt; (own == Class::Stopped) == (number < 3_000), "at {number}");
-        assert!(rt; other == Class::Plain, "at {number}");
+        let is_stopped = is_stopped(rt.alloc(), &lists, number)?;
+        assert!(rt; is_stopped == (number < 3_000), "at {number}");
     }
     Ok(())
 }
