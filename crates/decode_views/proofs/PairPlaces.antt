@@ -6,9 +6,11 @@ use Rattle.std.proofs.lemmas.Bool.Decides.{nat_tests}
 use Rattle.std.proofs.lemmas.List.{get_or-take, length-take, drop-drop}
 use Rattle.sbuf_nest.specs.Around.{look_at}
 use Rattle.sbuf_nest.specs.Marks.{NoneFrom}
+use Rattle.vector_search.specs.Places.{NoneIn}
 use Rattle.sbuf_nest.specs.declared.look.TheConstants.{LOOK_BEFORE, LOOK_AFTER}
 use Rattle.decode_views.specs.Utf16.{is_pair, pairs_in, last_pairs, begins_pairs, utf16_run, utf16_extent}
 use Rattle.decode_views.specs.Starts.{utf16_starts}
+use Rattle.decode_views.specs.TwoPairs.{are_two_pairs}
 use Rattle.decode_views.proofs.Pairs.{one_at, and_false, second_begins_none, pairs_within, pairs_in-take, pair_at, none_at}
 
 too_few : (pairs : ℕ) → pairs < 8 → nat_le 8 pairs ≡ false
@@ -55,22 +57,24 @@ module _ (bytes : List ℕ) where
 
   -- ---- places passed over
 
-  -- of eight pairs that begin at one of sixteen places one stands at the last but one of them or at the last
-  pub none_far : (at : ℕ) → is_pair (get_or bytes (at + 14) 0) (get_or bytes (at + 15) 0) ≡ false → is_pair (get_or bytes (at + 15) 0) (get_or bytes (at + 16) 0) ≡ false
-      → NoneFrom utf16_starts bytes at (at + 16)
-  none_far at first second place low high =
+  -- no two pairs stand in a row
+  pub none_without_two : (place : ℕ) → are_two_pairs bytes place ≡ false → utf16_starts (look_at bytes place) place ≡ []
+  unfolding are_two_pairs
+  none_without_two place is =
       few_pairs place (
       elim (cases_lt (pairs_in (drop place bytes)) 8) [
         | inl few ↦ few
         | inr eight ↦ (
-            let pair = (at + 15 - place) / 2 in
-            elim (cases_lt (place + 2 * pair) (at + 15)) [
-              | inl even ↦ absurd (false≢true (sym first ∙ pair_at bytes place pair (at + 14) (at + 15) (omega (arith, eight, low, high)) (omega (arith, even, low, high)) (omega arith)))
-              | inr odd ↦ absurd (false≢true (sym second ∙ pair_at bytes place pair (at + 15) (at + 16) (omega (arith, eight, low, high)) (omega (arith, odd, low, high)) (omega arith)))
-            ]
+            let first = pair_at bytes place 0 place (place + 1) (omega (arith, eight)) (omega arith) refl in
+            let second = pair_at bytes place 1 (place + 2) (place + 3) (omega (arith, eight)) (omega arith) (omega arith) in
+            absurd (false≢true (sym is ∙ rw (first, second) refl))
             )
       ]
       )
+
+  -- none of the places passes the test
+  pub none_passed : (first end : ℕ) → NoneIn (are_two_pairs bytes) first end → NoneFrom utf16_starts bytes first end
+  none_passed first end none place low high = none_without_two place (none place low high)
 
   -- the pairs from a place on where none begins, and the place behind them
   pub none_over : (at pairs : ℕ) → at < length bytes → pairs ≤ pairs_in (drop at bytes) → utf16_starts (look_at bytes at) at ≡ []
@@ -100,7 +104,3 @@ module _ (bytes : List ℕ) where
             subst (λ p. utf16_starts (look_at bytes p) p ≡ []) e none
             )
       ]
-
-  -- the bytes end ahead of eight pairs
-  pub none_to_end : (place : ℕ) → length bytes < place + 16 → utf16_starts (look_at bytes place) place ≡ []
-  none_to_end place short = few_pairs place (omega (arith, pairs_within (drop place bytes), length-drop place bytes, short))

@@ -1,22 +1,19 @@
 // The search of a buffer for runs of pairs.
 //
-// Of eight pairs that begin at one of sixteen places in a row, one stands at the last of these places or
-// at the one ahead of it. Where neither has a pair, all sixteen are passed over at a look at three bytes.
-// Elsewhere the pairs from a place on are counted, and passed over where no run begins there. So a byte
-// is read at most a few times, whatever the buffer holds: a run costs its counting, twice here and once
-// where it is judged.
-ghost use Rattle.std.specs.Prelude.{◌≡◌, ◌+◌, ◌<◌, ◌≤◌, ◌++◌, length, IsTrue, OnOk, OnErr};
+// It goes by the places where two pairs stand in a row, sixteen at a time. The pairs from such a place on are
+// counted, and passed over where no run begins there. So a byte is read at most a few times, whatever the
+// buffer holds: a run costs its counting, twice here and once where it is judged.
+ghost use Rattle.std.specs.Prelude.{◌≡◌, ◌≤◌, ◌++◌, length, OnOk, OnErr};
 ghost use Rattle.sbuf_nest.specs.Marks.{owned_marks, NoneFrom, AppendsFirst};
 ghost use Rattle.decode_views.specs.Starts.{utf16_starts};
 
-use crate::run::{ends_in_pair, is_pair, pairs_in};
+use crate::pair_test::TwoPairsTest;
+use crate::run::{ends_in_pair, pairs_in};
 use crate::{PAIRS_LEAST, utf16_run};
 use byte_kit::NoMemory;
 use forensic_path::Decoder;
 use sbuf_nest::{Look, Places, Sbuf, Search, Start, Starts, find_marks};
-
-// How many bytes the shortest run has, and how many places are passed over at a look.
-const STRIDE: usize = 2 * PAIRS_LEAST;
+use vector_search::next_place;
 
 /// Appends the starts of the runs of pairs at the places that the buffer owns, in order of place; the
 /// extent is `utf16_run` there. Its one refusal is want of memory, which leaves the first few of these
@@ -68,37 +65,16 @@ fn next_run(bytes: &[u8], next: usize, to: usize) -> usize
     ensures high { result ≤ to }
     ensures none { NoneFrom utf16_starts bytes.now next result }
 {
-    let mut at = next;
-    while at < to && bytes.len() - at > STRIDE {
-        if is_far(bytes, at) {
-            at += STRIDE;
-            continue;
-        }
+    let mut at = next_place(&TwoPairsTest, bytes, next, to);
+    while at < to {
         let (before, after) = bytes.split_at(at);
         let pairs = pairs_in(after);
         if pairs >= PAIRS_LEAST && !ends_in_pair(before) {
             return at;
         }
         // A pair's zero byte begins none, and a pair stands right ahead of each place that is left.
-        at += 2 * pairs + 1;
-    }
-    if at < to && bytes.len() - at == STRIDE {
-        return at;
+        let behind = (to - at).min(2 * pairs + 1);
+        at = next_place(&TwoPairsTest, bytes, at + behind, to);
     }
     to
-}
-
-// No pair stands at `at + 14` or `at + 15`, one of which belongs to any eight pairs that begin at one of the
-// sixteen places from `at` on. Mostly the two bytes that would be zero bytes tell: they come first, and by one
-// branch, which random bytes nearly always take.
-#[inline(always)]
-fn is_far(bytes: &[u8], at: usize) -> bool
-    requires { at + STRIDE < length bytes.now }
-    ensures { IsTrue result → NoneFrom utf16_starts bytes.now at (at + STRIDE) }
-{
-    let (first, middle, last) = (bytes[at + 14], bytes[at + 15], bytes[at + 16]);
-    if (middle != 0) & (last != 0) {
-        return true;
-    }
-    !is_pair(first, middle) && !is_pair(middle, last)
 }

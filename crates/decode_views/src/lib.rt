@@ -8,6 +8,7 @@
 #![tactic(auto)]
 
 mod find;
+mod pair_test;
 mod run;
 mod value;
 mod xor;

@@ -1,11 +1,18 @@
-use Rattle.std.proofs.Common.{◌≡◌, ◌∙◌, ◌<◌, ◌==◌, [], inl, inr, ap, sym, length, arith}
+use Rattle.std.proofs.Common.{◌≡◌, ◌∙◌, ◌+◌, ◌<◌, ◌==◌, [], inl, inr, ap, sym, length, arith}
 use Rattle.std.proofs.lemmas.Bool.{cases_lt, not-true}
 use Rattle.sbuf_nest.specs.Around.{look_at}
 use Rattle.decode_views.specs.Starts.{utf16_starts}
 use Rattle.decode_views.specs.Utf16.{pairs_in, last_pairs}
-use Rattle.decode_views.proofs.PairPlaces.{few_pairs, pair_ahead, none_over, none_to_end}
-use Rattle.decode_views.proofs.find.next_run.Goals.{else-pairs-ge-PAIRS_LEAST-via-then-pairs-ge-PAIRS_LEAST+else-not-ends_in_pair, else-pairs-ge-PAIRS_LEAST-via-else-pairs-ge-PAIRS_LEAST, then-loop-at-test+else-bytes-at-gt-STRIDE, else-loop-at-test, else-at-to-via-then-at-to+else-bytes-at-eq-STRIDE, else-at-to-via-else-at-to}
+use Rattle.decode_views.proofs.PairPlaces.{few_pairs, pair_ahead, none_over, none_passed}
+use Rattle.decode_views.proofs.find.next_run.Goals.{else-pairs-ge-PAIRS_LEAST-via-then-pairs-ge-PAIRS_LEAST+else-not-ends_in_pair, else-pairs-ge-PAIRS_LEAST-via-else-pairs-ge-PAIRS_LEAST}
 use Rattle.decode_views.proofs.find.next_run.Goals as goal
+
+pub loop-at-init : goal.loop-at-init
+loop-at-init c = record {
+  low = c.next_place-at.ensures.low;
+  high = c.next_place-at.ensures.high;
+  none = none_passed c.args.bytes.now c.args.next c.next_place-at.result c.next_place-at.ensures.before;
+}
 
 pub loop-at-preserved : goal.loop-at-preserved
 loop-at-preserved c =
@@ -13,6 +20,7 @@ loop-at-preserved c =
     let at = c.loop-at.at in
     let inv = c.loop-at.invariant in
     let before = c.split_at.result.0.now in
+    let next = c.next_place-at-in-loop-at in
     let counted = ap pairs_in c.split_at.ensures.back in
     let within : at < length bytes = omega (arith, c.loop-at-test.true, c.requires.within) in
     let none : utf16_starts (look_at bytes at) at ≡ [] = elim c.else-pairs-ge-PAIRS_LEAST.branch [
@@ -21,26 +29,15 @@ loop-at-preserved c =
           (ap (λ front. last_pairs front == 0) (sym c.split_at.ensures.front) ∙ not-true (last_pairs before == 0) (sym w.ends_in_pair.ensures ∙ w.if-not-ends_in_pair.false))
       | else-pairs-ge-PAIRS_LEAST-via-else-pairs-ge-PAIRS_LEAST w ↦ few_pairs bytes at (omega (arith, counted, c.pairs_in-pairs.ensures, w.if-pairs-ge-PAIRS_LEAST.false))
     ] in record {
-      low = omega (arith, inv.low);
+      low = omega (arith, inv.low, next.ensures.low);
+      high = next.ensures.high;
       none = λ place low high. elim (cases_lt place at) [
         | inl ahead ↦ inv.none place low ahead
-        | inr behind ↦ none_over bytes at c.pairs_in-pairs.result within (omega (arith, counted, c.pairs_in-pairs.ensures)) none place behind high
+        | inr behind ↦ (
+            elim (cases_lt place (at + c.min-behind.result)) [
+              | inl over ↦ none_over bytes at c.pairs_in-pairs.result within (omega (arith, counted, c.pairs_in-pairs.ensures)) none place behind (omega (arith, over, c.min-behind.ensures))
+              | inr further ↦ none_passed bytes (at + c.min-behind.result) next.result next.ensures.before place further high
+            ]
+            )
       ];
     }
-
-pub returns-clause-none : goal.returns-clause-none
-returns-clause-none c = λ place low high.
-    elim (cases_lt place c.loop-at.at) [
-      | inl ahead ↦ c.loop-at.invariant.none place low ahead
-      | inr behind ↦ none_to_end c.args.bytes.now place (
-          elim c.loop-at-test.branch [
-            | then-loop-at-test+else-bytes-at-gt-STRIDE w ↦ (
-                elim c.else-at-to.branch [
-                  | else-at-to-via-then-at-to+else-bytes-at-eq-STRIDE v ↦ omega (arith, w.if-bytes-at-gt-STRIDE.false, v.if-bytes-at-eq-STRIDE.false, behind)
-                  | else-at-to-via-else-at-to v ↦ absurd (omega (arith, v.if-at-to.false, high, behind))
-                ]
-                )
-            | else-loop-at-test w ↦ absurd (omega (arith, w.loop-at-test.false, high, behind))
-          ]
-          )
-    ]

@@ -7,6 +7,7 @@ use Rattle.decode_views.proofs.find.next_run.Given as goal
 abbrev pub invariant-loop-at : goal.invariant-loop-at
 invariant-loop-at l = record {
   low : l.next ≤ l.at;
+  high : l.at ≤ l.to;
   none : NoneFrom utf16_starts l.bytes l.next l.at;
 }
 
