@@ -20,6 +20,13 @@ module _ (stranger : ℕ → Bool) (end : ℕ) where
   no_row_further first middle last ahead behind place low high =
       elim (cases_lt place middle) [ inl below ↦ ahead place low below | inr above ↦ behind place above high ]
 
+  -- strangers at the last places of the two halves of a step bar all of its rows
+  pub halves_bar : (at : ℕ) → stranger (at + 31) ≡ true → stranger (at + 63) ≡ true → NoRowIn stranger end at (at + 64)
+  halves_bar at first second =
+      no_row_further at (at + 32) (at + 64)
+      (barred at (at + 32) (at + 31) first (omega arith) (omega arith))
+      (barred (at + 32) (at + 64) (at + 63) second (omega arith) (omega arith))
+
   -- a mask that begins so far behind a place shows a stranger: it bars the rows up to the first stranger
   pub mask_bars : (first at marks : ℕ) → first ≤ at → at ≤ first + 16 → marks ≡ mask_of stranger at 16 → marks ≢ 0 →
       NoRowIn stranger end first (at + count_trailing_zeros 64 marks + 1)

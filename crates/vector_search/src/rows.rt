@@ -2,8 +2,8 @@
 //
 // A row from any of sixteen places on has all places of one mask, which begins at the last of them. Where
 // that mask shows a stranger, all sixteen are passed over. Strangers stand dense in most bytes, so a step
-// looks at four such masks and branches once, by a stride that no mask decides: a load that waits for the
-// mask ahead of it is several times slower.
+// looks at two single places, and else at four such masks, and branches once, by a stride that no mask decides: a
+// load that waits for the mask ahead of it is several times slower.
 ghost use Rattle.std.specs.Prelude.{◌≡◌, ◌+◌, ◌≤◌, length, IsTrue};
 ghost use Rattle.vector_search.specs.Rows.{NoRowIn, IsNextRow};
 
@@ -68,13 +68,17 @@ fn past_broken<T: PlaceTest>(strangers: &T, bytes: &[u8], from: usize, to: usize
     at
 }
 
-// No row stands at one of the places of a step.
+// No row stands at one of the places of a step. Each row from one of them on has the last place of its first half
+// or of its second: where both are strangers, as in bytes that have few others, no mask is made.
 #[inline(always)]
 fn are_broken<T: PlaceTest>(strangers: &T, bytes: &[u8], at: usize) -> bool
     requires within { at + STEP + LAST ≤ length bytes.now }
     requires alone { T.REACH ≡ 0 }
     ensures { IsTrue result → NoRowIn (T.passes strangers.now bytes.now) (length bytes.now) at (at + STEP) }
 {
+    if strangers.passes_at(bytes, at + (ROW - 1)) & strangers.passes_at(bytes, at + (STEP - 1)) {
+        return true;
+    }
     let first = strangers.mask(bytes, at + LAST);
     let second = strangers.mask(bytes, at + LAST + LANES);
     let third = strangers.mask(bytes, at + LAST + 2 * LANES);
