@@ -1,4 +1,6 @@
 pub mod Decimals
 pub mod Given
+pub mod Ranges
 pub mod Refused
 pub mod Steps
+pub mod Whole

@@ -2,4 +2,5 @@ pub mod Values
 pub mod Options
 pub mod Faults
 pub mod Settings
+pub mod Lawful
 pub mod Words

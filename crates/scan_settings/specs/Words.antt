@@ -155,12 +155,15 @@ abbrev pub bounds_fault : List (List ℕ) → Settings → Option BadWord
 bounds_fault words settings =
     if nat_lt settings.plan.word_max settings.plan.word_min then Some (bad (length words) WordBounds) else None
 
--- The first bad word behind the command: options, places, what is missing, and the bounds of words, which are bad
--- only where nothing else is
+-- what is bad behind the options: places, what is missing, and the bounds of words, which are bad only where
+-- nothing else is
+unfoldable pub rest_fault : Action → List (List ℕ) → Option BadWord
+rest_fault action words =
+    option_or (places_fault action words (place_in words)) (bounds_fault words (settings_given words (options_in words)))
+
+-- the first bad word behind the command
 unfoldable pub words_fault : Action → List (List ℕ) → Option BadWord
-words_fault action words =
-    option_or (options_fault action words [] (options_in words))
-    (option_or (places_fault action words (place_in words)) (bounds_fault words (settings_given words (options_in words))))
+words_fault action words = option_or (options_fault action words [] (options_in words)) (rest_fault action words)
 
 -- the command of lawful words
 unfoldable pub command_given : Action → List (List ℕ) → Command

@@ -1,11 +1,12 @@
 // Judges the places of a command, and the words as a whole.
 ghost use Rattle.std.specs.Prelude.{◌≡◌, ◌+◌, ◌<◌, ◌≤◌, ◌^◌, length};
-ghost use Rattle.scan_settings.specs.Settings.{texts};
+ghost use Rattle.scan_settings.specs.Settings.{texts, settings_given};
 ghost use Rattle.scan_settings.specs.Words.{seed, size, missing, number_fault, places_fault, bounds_fault};
 
 use crate::action::Action;
 use crate::fault::{BadWord, Why};
-use crate::settings::{Settings, word_at};
+use crate::options::{WORD_MAX, WORD_MIN};
+use crate::settings::{number_given, word_at};
 use crate::values::{NumberRange, number_in};
 
 /// The most place words of a scan: 64 parts, and the folder of the report.
@@ -100,12 +101,15 @@ fn number_fault(range: NumberRange, words: &[String], at: usize) -> Option<BadWo
     Some(BadWord { word: at as u32, why })
 }
 
-/// The bounds of words, where they are crossed.
-pub fn bounds_fault(words: &[String], settings: &Settings) -> Option<BadWord>
+/// The bounds of words that these options give, where they are crossed.
+#[tactic(auto, unfolding(crate::specs::Settings::settings_given, crate::specs::Settings::plan_given))]
+pub fn bounds_fault(words: &[String], options: &[u32]) -> Option<BadWord>
     requires { length words.now < 2 ^ 32 }
-    ensures { result ≡ bounds_fault (texts words.now) settings.now }
+    ensures { result ≡ bounds_fault (texts words.now) (settings_given (texts words.now) options.now) }
 {
-    if settings.plan.word_max >= settings.plan.word_min {
+    let least = number_given(words, options, "--word-min", WORD_MIN);
+    let most = number_given(words, options, "--word-max", WORD_MAX);
+    if least <= most {
         return None;
     }
     let why = Why::WordBounds;

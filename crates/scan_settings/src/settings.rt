@@ -85,9 +85,9 @@ fn value_at(words: &[String], at: u32) -> &str
     word_at(words, at as usize + 1)
 }
 
-// The number that the option of this name gives, or else the one that holds without it.
+/// The number that the option of this name gives, or else the one that holds without it.
 #[tactic(auto, unfolding(crate::specs::Settings::number_given))]
-fn number_given(words: &[String], options: &[u32], name: &str, range: NumberRange) -> u64
+pub fn number_given(words: &[String], options: &[u32], name: &str, range: NumberRange) -> u64
     requires { range.default ≤ range.greatest }
     ensures number { result ≡ number_given (texts words.now) options.now name.now range }
     ensures most { result ≤ range.greatest }

@@ -2,10 +2,10 @@
 ghost use Rattle.std.specs.Prelude.{◌≡◌, ◌+◌, ◌-◌, ◌<◌, ◌≤◌, ◌^◌, [], map, take, drop, None, IfOk, IfErr, length};
 ghost use Rattle.scan_settings.specs.Faults.{IsFault, IsRefused};
 ghost use Rattle.scan_settings.specs.Settings.{texts, settings_given};
-ghost use Rattle.scan_settings.specs.Words.{options_in, place_in, options_fault, places_fault, words_fault, command_given, command_of};
+ghost use Rattle.scan_settings.specs.Words.{options_in, place_in, rest_fault, words_fault, command_given, command_of};
 
 use crate::action::{Action, action_of};
-use crate::fault::{Why, WordsFault};
+use crate::fault::{BadWord, Why, WordsFault};
 use crate::judge::{Options, read_options};
 use crate::places::{SEED, SIZE, bounds_fault, places_fault};
 use crate::settings::{Settings, settings_given, word_at};
@@ -42,13 +42,13 @@ pub fn read_words(alloc: Global, words: &[String]) -> Result<Command, WordsFault
     ensures command { IfOk result (λ command. command_of (texts words.now) ≡ Ok command) }
     ensures bad { IfErr result (IsRefused (command_of (texts words.now))) }
 {
-    let [first, ..] = words else {
+    if words.is_empty() {
         return Err(WordsFault::Usage {
             word: 0,
             why: Why::NoCommand,
         });
-    };
-    let Some(action) = action_of(first.as_str()) else {
+    }
+    let Some(action) = action_of(word_at(words, 0)) else {
         return Err(WordsFault::Usage {
             word: 0,
             why: Why::UnknownCommand,
@@ -66,22 +66,55 @@ fn read_command(alloc: Global, action: Action, words: &[String]) -> Result<Comma
     ensures command { IfOk result (λ command. command ≡ command_given action (texts words.now)) }
     ensures bad { IfErr result (IsFault (words_fault action (texts words.now))) }
 {
-    let options = read_options(alloc, action, words)?;
-    if let Some(bad) = places_fault(action, words, options.place) {
-        return Err(WordsFault::from(bad));
-    }
-    let settings = settings_given(alloc, words, options.numbers.as_slice())?;
-    if let Some(bad) = bounds_fault(words, &settings) {
-        return Err(WordsFault::from(bad));
-    }
-    let command = match action {
-        Action::Scan => scan_given(alloc, settings, words, options.place)?,
-        Action::Generate => generate_given(settings, words, options.place),
+    let options = match read_options(alloc, action, words) {
+        Ok(options) => options,
+        Err(refusal) => return Err(refusal),
     };
-    Ok(command)
+    if let Some(bad) = rest_fault(action, words, &options) {
+        return Err(WordsFault::from(bad));
+    }
+    match command_given(alloc, action, words, &options) {
+        Ok(command) => Ok(command),
+        Err(NoMemory) => Err(WordsFault::NoMemory),
+    }
+}
+
+// What is bad behind the options, all of which are good.
+#[tactic(auto, unfolding(crate::specs::Words::rest_fault))]
+fn rest_fault(action: Action, words: &[String], options: &Options) -> Option<BadWord>
+    requires few { length words.now < 2 ^ 32 }
+    requires within { options.now.place ≤ length words.now }
+    requires numbers { options.now.numbers.items ≡ options_in (texts words.now) }
+    requires place { options.now.place ≡ place_in (texts words.now) }
+    ensures { result ≡ rest_fault action (texts words.now) }
+{
+    if let Some(bad) = places_fault(action, words, options.place) {
+        return Some(bad);
+    }
+    bounds_fault(words, options.numbers.as_slice())
+}
+
+// The command of lawful words. Its one refusal is want of memory.
+fn command_given(
+    alloc: Global,
+    action: Action,
+    words: &[String],
+    options: &Options,
+) -> Result<Command, NoMemory>
+    requires numbers { options.now.numbers.items ≡ options_in (texts words.now) }
+    requires place { options.now.place ≡ place_in (texts words.now) }
+    requires places { options.now.place + 1 < length words.now }
+    ensures { IfOk result (λ command. command ≡ command_given action (texts words.now)) }
+{
+    let settings = settings_given(alloc, words, options.numbers.as_slice())?;
+    match action {
+        Action::Scan => scan_given(alloc, settings, words, options.place),
+        Action::Generate => Ok(generate_given(settings, words, options.place)),
+    }
 }
 
 // The scan of these words, whose places begin at this number. Its one refusal is want of memory.
+#[tactic(auto, unfolding(crate::specs::Words::command_given))]
 fn scan_given(
     alloc: Global,
     settings: Settings,
@@ -115,6 +148,7 @@ fn names_of(alloc: Global, words: &[String]) -> Result<Names, NoMemory>
 }
 
 // The command `generate` of these words, whose places begin at this number.
+#[tactic(auto, unfolding(crate::specs::Words::command_given))]
 fn generate_given(settings: Settings, words: &[String], first: u32) -> Command
     requires settings { settings ≡ settings_given (texts words.now) (options_in (texts words.now)) }
     requires first { first ≡ place_in (texts words.now) }
