@@ -23,11 +23,7 @@ pub struct Options {
 
 /// The options ahead of the first place word, all of them lawful. Refused, it names the first bad one, or
 /// wants memory.
-pub fn read_options(
-    alloc: Global,
-    action: Action,
-    words: &[String],
-) -> Result<Options, WordsFault>
+pub fn read_options(alloc: Global, action: Action, words: &[String]) -> Result<Options, WordsFault>
     requires some { 0 < length words.now }
     requires few { length words.now < 2 ^ 32 }
     ensures good { IfOk result (λ options. options_fault action (texts words.now) [] (options_in (texts words.now)) ≡ None) }
@@ -65,12 +61,7 @@ fn begins_with_dash(word: &str) -> bool
 // Judges the option of this number, behind those options, and its value. Gives the number of the word that
 // follows them.
 #[tactic(auto, unfolding(crate::specs::Words::option_fault))]
-fn judge_option(
-    action: Action,
-    words: &[String],
-    earlier: &[u32],
-    at: u32,
-) -> Result<u32, BadWord>
+fn judge_option(action: Action, words: &[String], earlier: &[u32], at: u32) -> Result<u32, BadWord>
     requires here { at < length words.now }
     requires few { length words.now < 2 ^ 32 }
     ensures good { IfOk result (λ next. option_fault action (texts words.now) earlier.now at ≡ None) }
@@ -86,7 +77,11 @@ fn judge_option(
     if let Some(bad) = value_fault(form, words, at + 1) {
         return Err(bad);
     }
-    if is_followed(form) { Ok(at + 2) } else { Ok(at + 1) }
+    if is_followed(form) {
+        Ok(at + 2)
+    } else {
+        Ok(at + 1)
+    }
 }
 
 // How often the option of this name is among these.

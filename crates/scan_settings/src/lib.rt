@@ -1,4 +1,13 @@
-//! The words of the command line, and the settings that they give.
+//! The words of the command line: which commands are lawful, what their options set, and which word is
+//! the first bad one.
+//!
+//! `specs/Options.antt` is the table of the options: the name of each, how often it may be given, what its
+//! value is and, of a number, its range and what holds without it. `specs/Words.antt` says which words are
+//! options, which are places, and what is bad of each; `specs/Settings.antt` which settings the options give,
+//! and `specs/Lawful.antt` in which ranges these lie.
+//!
+//! The promise: [`read_words`] gives the [`Command`] of lawful words, whose settings lie in their ranges, or
+//! names the first bad word with its [`Why`].
 #![tactic(auto)]
 
 mod action;
@@ -10,8 +19,15 @@ mod settings;
 mod values;
 mod words;
 
-pub use fault::{BadWord, Why, WordsFault};
-pub use options::{Often, OptionForm, ValueKind, form_of};
-pub use settings::{Plan, Settings, settings_given};
-pub use values::NumberRange;
+pub use fault::{Why, WordsFault};
+pub use options::{
+    CONTEXT, DEPTH, KEYWORDS_MOST, MARGIN, MASK, PAGE, PATTERNS_MOST, SPOOL_LIMIT, WORD_MAX,
+    WORD_MIN, WORKERS,
+};
+pub use places::{PLACES_MOST, SEED, SIZE};
+pub use settings::{Plan, SCANNERS, Settings};
+pub use values::{NumberRange, TEXT_MOST};
 pub use words::{Command, read_words};
+
+#[cfg(test)]
+mod tests;

@@ -40,31 +40,67 @@ pub struct OptionForm {
 }
 
 /// How many bytes a page has.
-pub const PAGE: NumberRange = NumberRange { least: 512, greatest: 16_777_216, default: 16_777_216 };
+pub const PAGE: NumberRange = NumberRange {
+    least: 512,
+    greatest: 16_777_216,
+    default: 16_777_216,
+};
 
 /// How many bytes behind a page are read with it.
-pub const MARGIN: NumberRange = NumberRange { least: 131_072, greatest: 4_194_304, default: 4_194_304 };
+pub const MARGIN: NumberRange = NumberRange {
+    least: 131_072,
+    greatest: 4_194_304,
+    default: 4_194_304,
+};
 
 /// How many workers scan.
-pub const WORKERS: NumberRange = NumberRange { least: 1, greatest: 8, default: 4 };
+pub const WORKERS: NumberRange = NumberRange {
+    least: 1,
+    greatest: 8,
+    default: 4,
+};
 
 /// How many buffers deep decoded bytes are searched.
-pub const DEPTH: NumberRange = NumberRange { least: 0, greatest: 7, default: 5 };
+pub const DEPTH: NumberRange = NumberRange {
+    least: 0,
+    greatest: 7,
+    default: 5,
+};
 
 /// The mask of the XOR view; 0, where none is given, is no mask.
-pub const MASK: NumberRange = NumberRange { least: 1, greatest: 255, default: 0 };
+pub const MASK: NumberRange = NumberRange {
+    least: 1,
+    greatest: 255,
+    default: 0,
+};
 
 /// The fewest bytes of a word.
-pub const WORD_MIN: NumberRange = NumberRange { least: 1, greatest: 256, default: 6 };
+pub const WORD_MIN: NumberRange = NumberRange {
+    least: 1,
+    greatest: 256,
+    default: 6,
+};
 
 /// The most bytes of a word.
-pub const WORD_MAX: NumberRange = NumberRange { least: 1, greatest: 256, default: 14 };
+pub const WORD_MAX: NumberRange = NumberRange {
+    least: 1,
+    greatest: 256,
+    default: 14,
+};
 
 /// How many bytes of context a feature has on either side.
-pub const CONTEXT: NumberRange = NumberRange { least: 0, greatest: 128, default: 16 };
+pub const CONTEXT: NumberRange = NumberRange {
+    least: 0,
+    greatest: 128,
+    default: 16,
+};
 
 /// How many bytes the spool may have.
-pub const SPOOL_LIMIT: NumberRange = NumberRange { least: 1, greatest: 281_474_976_710_656, default: 1_099_511_627_776 };
+pub const SPOOL_LIMIT: NumberRange = NumberRange {
+    least: 1,
+    greatest: 281_474_976_710_656,
+    default: 1_099_511_627_776,
+};
 
 /// The most keywords.
 pub const KEYWORDS_MOST: usize = 64;

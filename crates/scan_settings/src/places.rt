@@ -69,7 +69,10 @@ fn generate_fault(words: &[String], first: u32) -> Option<BadWord>
     }
     if first as usize + 2 < words.len() {
         let why = Why::ExtraWord;
-        return Some(BadWord { word: first + 2, why });
+        return Some(BadWord {
+            word: first + 2,
+            why,
+        });
     }
     None
 }
@@ -83,7 +86,10 @@ fn missing(words: &[String], at: usize) -> Option<BadWord>
         return None;
     }
     let why = Why::PlaceMissing;
-    Some(BadWord { word: words.len() as u32, why })
+    Some(BadWord {
+        word: words.len() as u32,
+        why,
+    })
 }
 
 // The word of this number is no number of the range.
@@ -98,7 +104,10 @@ fn number_fault(range: NumberRange, words: &[String], at: usize) -> Option<BadWo
         return None;
     }
     let why = Why::BadNumber;
-    Some(BadWord { word: at as u32, why })
+    Some(BadWord {
+        word: at as u32,
+        why,
+    })
 }
 
 /// The bounds of words that these options give, where they are crossed.
@@ -113,5 +122,8 @@ pub fn bounds_fault(words: &[String], options: &[u32]) -> Option<BadWord>
         return None;
     }
     let why = Why::WordBounds;
-    Some(BadWord { word: words.len() as u32, why })
+    Some(BadWord {
+        word: words.len() as u32,
+        why,
+    })
 }

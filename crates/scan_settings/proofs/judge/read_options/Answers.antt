@@ -42,9 +42,10 @@ end_of c =
     let words = texts c.args.words.now in
     let size : length words ≡ length c.args.words.now = length-map c.args.words.now _ in
     elim c.loop-at-test.branch [
-      then-loop-at-test+else-begins_with_dash w ↦ at_place words c.loop-at.at (omega (arith, size, w.loop-at-test.true))
+      | then-loop-at-test+else-begins_with_dash w ↦ at_place words c.loop-at.at (omega (arith, size, w.loop-at-test.true))
           (ap begins_with_dash (sym w.word_at.ensures) ∙ sym w.begins_with_dash.ensures ∙ w.if-begins_with_dash.false)
-    | else-loop-at-test w ↦ past_end words c.loop-at.at (omega (arith, size, w.loop-at-test.false)) ]
+      | else-loop-at-test w ↦ past_end words c.loop-at.at (omega (arith, size, w.loop-at-test.false))
+    ]
 
 pub returns-clause-good : goal.returns-clause-good
 returns-clause-good c =
