@@ -4,3 +4,5 @@ pub mod Faults
 pub mod Settings
 pub mod Lawful
 pub mod Words
+pub mod Record
+pub mod Fields

@@ -15,6 +15,8 @@ mod fault;
 mod judge;
 mod options;
 mod places;
+mod record;
+mod record_read;
 mod settings;
 mod values;
 mod words;
@@ -25,7 +27,9 @@ pub use options::{
     WORD_MIN, WORKERS,
 };
 pub use places::{PLACES_MOST, SEED, SIZE};
-pub use settings::{Plan, SCANNERS, Settings};
+pub use record::{Kept, settings_bytes};
+pub use record_read::{RECORD_LEAST, settings_read};
+pub use settings::{Plan, SCANNERS, SCANNERS_END, Settings};
 pub use values::{NumberRange, TEXT_MOST};
 pub use words::{Command, read_words};
 

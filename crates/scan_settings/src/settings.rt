@@ -13,6 +13,9 @@ use std::alloc::Global;
 /// The scanners that are on by default, a bit each (`Scanner::bit`): all but that of words.
 pub const SCANNERS: u16 = 0x03BF;
 
+/// The first number with a bit that stands for no scanner.
+pub const SCANNERS_END: u16 = 0x0400;
+
 /// What a scan looks for, and how deep.
 #[derive(Drop)]
 pub struct Plan {
