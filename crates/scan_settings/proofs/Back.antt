@@ -99,3 +99,19 @@ fields_back kept is =
     (plan_is kept.plan _ _ _ _ _ _ _ _ (scanners_at kept (omega (arith, is.plan.scanners))) (depth_at kept) (mask_at kept)
     (word_min_at kept (omega (arith, is.plan.least.1))) (word_max_at kept (omega (arith, is.plan.most.1))) (context_at kept (omega (arith, is.plan.context.1)))
     (keywords_back kept is) (patterns_back kept is))
+
+-- a record has at least 51 bytes
+pub record_long : (kept : Kept) → 51 ≤ length (record_of kept)
+unfolding record_of numbers_of
+record_long kept =
+    let size = length-append (flat_map text_bytes kept.plan.keywords) (texts_bytes kept.plan.patterns) in
+    omega (arith, size)
+
+-- what the fields of a record are is what it keeps
+pub same_kept : (fields kept : Kept) (bytes : List ℕ) → fields ≡ fields_of bytes → IsKept kept → record_of kept ≡ bytes → fields ≡ kept
+same_kept fields kept bytes fields_is is text = fields_is ∙ ap fields_of (sym text) ∙ fields_back kept is
+
+-- the patterns, step by step
+pub patterns_read : (bytes behind rest after : List ℕ) (count number : ℕ) (texts items : List (List ℕ)) → behind ≡ drop 49 bytes → count ≡ le16 bytes 47 →
+    rest ≡ behind_texts count behind → number ≡ le16 rest 0 → after ≡ drop 2 rest → texts ≡ texts_at number after → items ≡ texts → patterns_at bytes ≡ items
+patterns_read bytes behind rest after count number texts items a b d e f g h = rw (h, g, e, f, d, b, a) refl

@@ -1,6 +1,7 @@
 pub mod Back
 pub mod Decimals
 pub mod Given
+pub mod KeptRanges
 pub mod Ranges
 pub mod Refused
 pub mod Steps

@@ -114,3 +114,11 @@ texts_end count turn bytes over = let e : count - turn ≡ 0 = omega arith in rw
 pub behind_end : (count turn : ℕ) (bytes : List ℕ) → count ≤ turn → behind_texts (count - turn) bytes ≡ bytes
 unfolding behind_texts
 behind_end count turn bytes over = let e : count - turn ≡ 0 = omega arith in rw e refl
+
+pub texts_more : (count turn : ℕ) (rest next : List ℕ) (texts more : List (List ℕ)) (text : List ℕ) → turn < count →
+    next ≡ drop (le16 rest 0) (drop 2 rest) → text ≡ take (le16 rest 0) (drop 2 rest) → more ≡ texts ++ text ∷ [] →
+    texts ++ texts_at (count - turn) rest ≡ more ++ texts_at (count - (turn + 1)) next
+texts_more count turn rest next texts more text within next_is text_is more_is =
+    rw (more_is, text_is, next_is)
+    (ap (λ (all : List (List ℕ)). texts ++ all) (texts_turn count turn rest within)
+    ∙ sym (append_assoc texts (take (le16 rest 0) (drop 2 rest) ∷ []) (texts_at (count - (turn + 1)) (drop (le16 rest 0) (drop 2 rest)))))

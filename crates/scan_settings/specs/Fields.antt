@@ -1,5 +1,5 @@
 -- Where the fields of a record stand.
-use Rattle.std.specs.Prelude.{ℕ, zero, suc, ◌+◌, ◌&&◌, Bool, nat_lt, nat_le, length, List, [], ◌∷◌, take, drop, slice_index}
+use Rattle.std.specs.Prelude.{ℕ, zero, suc, ◌+◌, ◌<◌, ◌^◌, ◌&&◌, Bool, nat_lt, nat_le, length, List, [], ◌∷◌, take, drop, slice_index}
 use Rattle.byte_kit.specs.Numbers.{le16, le64}
 use Rattle.std.specs.List.{list_all}
 use Rattle.scan_settings.specs.declared.values.NumberRange.{NumberRange}
@@ -47,7 +47,14 @@ fields_of bytes = record {
   };
 }
 
--- ---- tests of ranges
+-- ---- ranges
+
+-- numbers of so many bytes
+pub record AreFields (kept : Kept) : Type 0 where
+  pub image : kept.image < 2 ^ 64
+  pub stop : kept.stop < 2 ^ 64
+  pub alert : kept.alert < 2 ^ 64
+  pub mask : kept.plan.mask < 2 ^ 8
 
 abbrev pub is_in : NumberRange → ℕ → Bool
 is_in range number = nat_le range.least number && nat_le number range.greatest

@@ -7,7 +7,7 @@ ghost use Rattle.scan_settings.specs.declared.record.Kept.{Kept};
 ghost use Rattle.scan_settings.specs.Lawful.{IsPlan};
 ghost use Rattle.scan_settings.specs.Values.{is_text};
 ghost use Rattle.scan_settings.specs.Record.{record_of, IsKept};
-ghost use Rattle.scan_settings.specs.Fields.{is_in, has_numbers, is_ranged, texts_at, behind_texts, patterns_at, fields_of};
+ghost use Rattle.scan_settings.specs.Fields.{AreFields, is_in, has_numbers, is_ranged, texts_at, behind_texts, patterns_at, fields_of};
 
 use crate::options::{CONTEXT, DEPTH, KEYWORDS_MOST, PAGE, PATTERNS_MOST, WORD_MAX, WORD_MIN};
 use crate::record::{Kept, record_bytes};
@@ -121,6 +121,7 @@ fn is_text_of(text: &[u8]) -> bool
 fn fields_of(alloc: Global, bytes: &[u8]) -> Result<Option<Kept>, NoMemory>
     requires { 51 ≤ length bytes.now }
     ensures some { IfOk result (λ read. IfSome read (λ kept. kept ≡ fields_of bytes.now)) }
+    ensures sizes { IfOk result (λ read. IfSome read AreFields) }
     ensures utf8 { IfOk result (λ read. IfSome read (λ kept. All IsUtf8 kept.plan.patterns)) }
     ensures none { IfOk result (λ read. IfNone read (¬ (All IsUtf8 (patterns_at bytes.now)))) }
 {

@@ -3,6 +3,7 @@ use byte_kit::NoMemory;
 use std::alloc::Global;
 
 mod bad_words;
+mod record;
 mod settings;
 
 // More words than any test has.
