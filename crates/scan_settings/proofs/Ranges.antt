@@ -1,5 +1,5 @@
 -- Lawful words give settings that lie in their ranges.
-use Rattle.std.proofs.Common.{ℕ, zero, suc, ◌≡◌, ◌+◌, ◌-◌, ◌<◌, ◌≤◌, ◌^◌, ◌&&◌, Bool, true, false, cond, nat_lt, nat_le, List, [], ◌∷◌, ◌++◌, map, filter, fold, length, get_or, Option, Some, None, option_map, unwrap_or, codes, refl, sym, subst, ap, ◌∙◌, arith, bytes_eq}
+use Rattle.std.proofs.Common.{ℕ, zero, suc, ◌≡◌, ◌+◌, ◌-◌, ◌<◌, ◌≤◌, ◌^◌, ◌&&◌, Bool, true, false, cond, nat_lt, nat_le, List, [], ◌∷◌, ◌++◌, map, filter, fold, length, get_or, drop, length-take, length-drop, Option, Some, None, option_map, unwrap_or, codes, refl, sym, subst, ap, ◌∙◌, arith, bytes_eq}
 use Rattle.std.specs.Option.{option_or, option_and_then}
 use Rattle.std.specs.List.{All}
 use Rattle.std.proofs.lemmas.List.Sums.{sum_by_push}
@@ -19,8 +19,9 @@ use Rattle.scan_settings.specs.Faults.{bad}
 use Rattle.scan_settings.specs.Values.{number_of, number_in, within, scanner_of, is_text}
 use Rattle.scan_settings.specs.Options.{form_of, page, margin, workers, depth, mask, word_min, word_max, context, spool_limit}
 use Rattle.scan_settings.specs.Settings.{is_named, value_at, word_at, given_at, number_given, values_given, with_scanner, without_scanner, switch, switched, scanners_default, scanners_given, plan_given, settings_given}
-use Rattle.scan_settings.specs.Lawful.{IsWithin, IsText, IsPlan, AreSettings, settings_of}
-use Rattle.scan_settings.specs.Words.{options_in, place_in, is_for, option_why, name_fault, value_fault, option_fault, options_fault, count_named, places_fault, bounds_fault, rest_fault, words_fault, command_given}
+use Rattle.scan_settings.proofs.Whole.{two_places}
+use Rattle.scan_settings.specs.Lawful.{IsWithin, IsText, IsPlan, AreSettings, IsLawful}
+use Rattle.scan_settings.specs.Words.{size, options_in, place_in, is_for, option_why, name_fault, value_fault, option_fault, options_fault, count_named, places_fault, bounds_fault, rest_fault, words_fault, command_given}
 
 -- ---- numbers
 
@@ -44,6 +45,9 @@ within_most : (range : NumberRange) (number : Option ℕ) → range.default ≤ 
 within_most range None usual = usual
 within_most range (Some n) usual =
     most_of (nat_le range.least n) (nat_le n range.greatest) range.greatest range.default n (λ e. grind (arith, nat_tests, e)) usual
+
+size_most : (number : Option ℕ) → unwrap_or (option_and_then (within size) number) 0 ≤ 67108864
+size_most number = within_most size number (omega arith)
 
 least_at : (range : NumberRange) (words : List (List ℕ)) (at : Option ℕ) → range.least ≤ range.default →
     range.least ≤ unwrap_or (option_and_then (λ at. number_in range (value_at words at)) at) range.default
@@ -252,14 +256,36 @@ settings_lawful action words options good bounds = record {
   limit = number_within words options (codes "--spool-limit") spool_limit (omega arith, omega arith);
 }
 
--- words of which none is bad give lawful settings
-pub given_lawful : (action : Action) (words : List (List ℕ)) → words_fault action words ≡ None → AreSettings (settings_of (command_given action words))
-unfolding words_fault rest_fault command_given
+-- what is behind good words is good
+rest_good : (action : Action) (words : List (List ℕ)) → words_fault action words ≡ None → rest_fault action words ≡ None
+unfolding words_fault
+rest_good action words good = second_none (options_fault action words [] (options_in words)) (rest_fault action words) good
+
+places_good : (action : Action) (words : List (List ℕ)) → words_fault action words ≡ None → places_fault action words (place_in words) ≡ None
+unfolding rest_fault
+places_good action words good =
+    first_none (places_fault action words (place_in words)) (bounds_fault words (settings_given words (options_in words))) (rest_good action words good)
+
+set_lawful : (action : Action) (words : List (List ℕ)) → words_fault action words ≡ None → AreSettings (settings_given words (options_in words))
+unfolding words_fault rest_fault
+set_lawful action words good =
+    settings_lawful action words (options_in words) (first_none (options_fault action words [] (options_in words)) (rest_fault action words) good)
+    (second_none (places_fault action words (place_in words)) (bounds_fault words (settings_given words (options_in words))) (rest_good action words good))
+
+few_places : (words : List (List ℕ)) (first : ℕ) → places_fault Scan words first ≡ None → length words - first ≤ 65
+unfolding places_fault
+few_places words first good = grind (arith, nat_tests, good)
+
+-- words of which none is bad give a lawful command
+pub given_lawful : (action : Action) (words : List (List ℕ)) → words_fault action words ≡ None → IsLawful (command_given action words)
+unfolding command_given number_in
 given_lawful Scan words good =
-    let rest = second_none (options_fault Scan words [] (options_in words)) (rest_fault Scan words) good in
-    settings_lawful Scan words (options_in words) (first_none (options_fault Scan words [] (options_in words)) (rest_fault Scan words) good)
-    (second_none (places_fault Scan words (place_in words)) (bounds_fault words (settings_given words (options_in words))) rest)
+    let places = places_good Scan words good in
+    let first = place_in words in
+    let two = two_places Scan words first places in
+    let few = few_places words first places in
+    let taken = length-take (length words - 1 - first) (drop first words) in
+    let left = length-drop first words in
+    (set_lawful Scan words good, omega (arith, two, taken, left), omega (arith, few, taken, left))
 given_lawful Generate words good =
-    let rest = second_none (options_fault Generate words [] (options_in words)) (rest_fault Generate words) good in
-    settings_lawful Generate words (options_in words) (first_none (options_fault Generate words [] (options_in words)) (rest_fault Generate words) good)
-    (second_none (places_fault Generate words (place_in words)) (bounds_fault words (settings_given words (options_in words))) rest)
+    (set_lawful Generate words good, size_most (number_of (word_at words (place_in words + 1))))

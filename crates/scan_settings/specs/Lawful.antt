@@ -38,7 +38,7 @@ pub record AreSettings (settings : Settings) : Type 0 where
   pub plan : IsPlan settings.plan
   pub limit : IsWithin spool_limit settings.limit
 
--- the settings of a command
-abbrev pub settings_of : Command → Settings
-settings_of (Scan settings parts place) = settings
-settings_of (Generate settings seed size) = settings
+-- a command as words may give it: 1 to 64 parts, or an image of at most 64 MiB
+abbrev pub IsLawful : Command → Type 0
+IsLawful (Scan settings parts place) = AreSettings settings × (1 ≤ length parts) × (length parts ≤ 64)
+IsLawful (Generate settings seed size) = AreSettings settings × (size ≤ 67108864)

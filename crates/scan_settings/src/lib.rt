@@ -7,7 +7,8 @@
 //! and `specs/Lawful.antt` in which ranges these lie.
 //!
 //! The promise: [`read_words`] gives the [`Command`] of lawful words, whose settings lie in their ranges, or
-//! names the first bad word with its [`Why`].
+//! names the first bad word with its [`Why`]. [`settings_bytes`] is the record of `specs/Record.antt`, and
+//! [`settings_read`] gives what a record keeps, and none exactly where the bytes are no record.
 #![tactic(auto)]
 
 mod action;

@@ -85,11 +85,9 @@ fn missing(words: &[String], at: usize) -> Option<BadWord>
     if at < words.len() {
         return None;
     }
+    let word = words.len() as u32;
     let why = Why::PlaceMissing;
-    Some(BadWord {
-        word: words.len() as u32,
-        why,
-    })
+    Some(BadWord { word, why })
 }
 
 // The word of this number is no number of the range.

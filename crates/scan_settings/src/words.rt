@@ -1,7 +1,7 @@
 // The words of the command line.
 ghost use Rattle.std.specs.Prelude.{◌≡◌, ◌+◌, ◌-◌, ◌<◌, ◌≤◌, ◌^◌, [], map, take, drop, None, IfOk, IfErr, length};
 ghost use Rattle.scan_settings.specs.Faults.{IsFault, IsRefused};
-ghost use Rattle.scan_settings.specs.Lawful.{AreSettings, settings_of};
+ghost use Rattle.scan_settings.specs.Lawful.{IsLawful};
 ghost use Rattle.scan_settings.specs.Settings.{texts, settings_given};
 ghost use Rattle.scan_settings.specs.Words.{options_in, place_in, rest_fault, words_fault, command_given, command_of};
 
@@ -41,7 +41,7 @@ pub enum Command {
 pub fn read_words(alloc: Global, words: &[String]) -> Result<Command, WordsFault>
     requires { length words.now < 2 ^ 32 }
     ensures command { IfOk result (λ command. command_of (texts words.now) ≡ Ok command) }
-    ensures lawful { IfOk result (λ command. AreSettings (settings_of command)) }
+    ensures lawful { IfOk result IsLawful }
     ensures bad { IfErr result (IsRefused (command_of (texts words.now))) }
 {
     if words.is_empty() {
@@ -66,7 +66,7 @@ fn read_command(alloc: Global, action: Action, words: &[String]) -> Result<Comma
     requires few { length words.now < 2 ^ 32 }
     ensures good { IfOk result (λ command. words_fault action (texts words.now) ≡ None) }
     ensures command { IfOk result (λ command. command ≡ command_given action (texts words.now)) }
-    ensures lawful { IfOk result (λ command. AreSettings (settings_of command)) }
+    ensures lawful { IfOk result IsLawful }
     ensures bad { IfErr result (IsFault (words_fault action (texts words.now))) }
 {
     let options = match read_options(alloc, action, words) {

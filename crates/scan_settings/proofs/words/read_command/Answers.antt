@@ -3,8 +3,7 @@ use Rattle.std.proofs.lemmas.List.{length-map}
 use Rattle.scan_settings.specs.Settings.{texts}
 use Rattle.scan_settings.specs.Words.{words_fault, place_in}
 use Rattle.scan_settings.specs.Faults.{IsFault}
-use Rattle.scan_settings.specs.declared.words.Command.{Command}
-use Rattle.scan_settings.specs.Lawful.{AreSettings, settings_of}
+use Rattle.scan_settings.specs.Lawful.{IsLawful}
 use Rattle.scan_settings.proofs.Ranges.{given_lawful}
 use Rattle.scan_settings.proofs.Whole.{options_first, rest_next, two_places, places_good}
 use Rattle.scan_settings.proofs.words.read_command.Goals as goal
@@ -31,5 +30,5 @@ returns-in-Ok-command_given-clause-good c =
 pub returns-in-Ok-command_given-clause-lawful : goal.returns-in-Ok-command_given-clause-lawful
 returns-in-Ok-command_given-clause-lawful c =
     let words = texts c.args.words.now in
-    subst (λ (command : Command). AreSettings (settings_of command)) (sym c.in-Ok-command_given.ensures)
+    subst IsLawful (sym c.in-Ok-command_given.ensures)
     (given_lawful c.args.action words (rest_next c.args.action words _ c.in-Ok.ensures.good c.in_default.ensures))
