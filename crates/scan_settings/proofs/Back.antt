@@ -1,6 +1,6 @@
 -- A record is read back from its bytes.
-use Rattle.std.proofs.Common.{ℕ, ◌≡◌, ◌+◌, ◌<◌, ◌≤◌, ◌^◌, List, [], ◌++◌, append-nil, length, drop, refl, sym, subst, ap, ◌∙◌, slice_index, length-append, arith}
-use Rattle.byte_kit.specs.Numbers.{le16, le64, le16_bytes, le64_bytes}
+use Rattle.std.proofs.Common.{ℕ, ◌≡◌, ◌<◌, ◌≤◌, ◌^◌, List, [], ◌++◌, append-nil, length, drop, refl, sym, ap, ◌∙◌, slice_index, length-append, arith}
+use Rattle.byte_kit.specs.Numbers.{le16, le64}
 use Rattle.std.specs.List.{flat_map}
 use Rattle.scan_settings.specs.declared.settings.Plan.{Plan}
 use Rattle.scan_settings.specs.declared.record.Kept.{Kept}

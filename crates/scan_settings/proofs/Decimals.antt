@@ -1,5 +1,5 @@
 -- A word that is a decimal is the number's, and the only one.
-use Rattle.std.proofs.Common.{ℕ, zero, suc, ◌≡◌, ◌≢◌, ◌^◌, ◌<◌, ◌≤◌, ◌&&◌, ◌||◌, ◌==◌, not, nat_lt, Bool, true, false, cond, nat_le, List, [], ◌∷◌, length, get_or, Option, Some, None, refl, sym, subst, arith, rules}
+use Rattle.std.proofs.Common.{ℕ, zero, suc, ◌≡◌, ◌≢◌, ◌^◌, ◌<◌, ◌&&◌, ◌||◌, ◌==◌, not, nat_lt, Bool, true, false, cond, List, length, get_or, Some, None, refl, subst, arith, rules}
 use Rattle.std.specs.Fmt.{decimal, digits}
 use Rattle.std.specs.Str.{all_ascii_digits}
 use Rattle.std.specs.Str.Parse.{digits_value}

@@ -1,7 +1,6 @@
 -- The settings by their parts.
 use Rattle.std.proofs.Common.{ℕ, ◌≡◌, Bool, List, Option, codes, is_some, refl}
 use Rattle.scan_settings.specs.declared.settings.Plan.{Plan}
-use Rattle.scan_settings.specs.declared.settings.Settings.{Settings}
 use Rattle.scan_settings.specs.Options.{page, margin, workers, depth, mask, word_min, word_max, context, spool_limit}
 use Rattle.scan_settings.specs.Settings.{given_at, number_given, values_given, value_given, scanners_given, plan_given, settings_given}
 

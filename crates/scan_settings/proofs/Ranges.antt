@@ -1,5 +1,5 @@
 -- Lawful words give settings that lie in their ranges.
-use Rattle.std.proofs.Common.{ℕ, zero, suc, ◌≡◌, ◌+◌, ◌-◌, ◌<◌, ◌≤◌, ◌^◌, ◌&&◌, Bool, true, false, cond, nat_lt, nat_le, List, [], ◌∷◌, ◌++◌, map, filter, fold, length, get_or, drop, length-take, length-drop, Option, Some, None, option_map, unwrap_or, codes, refl, sym, subst, ap, ◌∙◌, arith, bytes_eq}
+use Rattle.std.proofs.Common.{ℕ, zero, suc, ◌≡◌, ◌+◌, ◌-◌, ◌<◌, ◌≤◌, ◌&&◌, Bool, true, false, cond, nat_lt, nat_le, List, [], ◌∷◌, ◌++◌, map, filter, fold, length, drop, length-take, length-drop, Option, Some, None, option_map, unwrap_or, codes, refl, sym, subst, arith}
 use Rattle.std.specs.Option.{option_or, option_and_then}
 use Rattle.std.specs.List.{All}
 use Rattle.std.proofs.lemmas.List.Sums.{sum_by_push}

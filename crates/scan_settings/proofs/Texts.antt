@@ -1,8 +1,8 @@
 -- Lists of texts: what holds of each, how long they are, and how they are read back.
-use Rattle.std.proofs.Common.{ℕ, zero, suc, ◌≡◌, ◌+◌, ◌-◌, ◌*◌, ◌<◌, ◌≤◌, ◌^◌, Bool, true, false, ◌&&◌, List, [], ◌∷◌, ◌++◌, length, get_or, take, drop, refl, sym, subst, ap, ◌∙◌, append_assoc, length-append, arith}
+use Rattle.std.proofs.Common.{ℕ, zero, suc, ◌≡◌, ◌+◌, ◌-◌, ◌*◌, ◌<◌, ◌≤◌, ◌^◌, Bool, true, false, ◌&&◌, List, [], ◌∷◌, ◌++◌, length, take, drop, refl, sym, ap, ◌∙◌, append_assoc, length-append, arith}
 use Rattle.std.specs.List.{All, flat_map, list_all}
 use Rattle.std.proofs.lemmas.Bool.Decides.{nat_tests}
-use Rattle.std.proofs.lemmas.List.{take_at, drop_at, get_or_append_left, get_or_at}
+use Rattle.std.proofs.lemmas.List.{take_at, drop_at}
 use Rattle.byte_kit.specs.Numbers.{le16, le64, le16_bytes, le64_bytes}
 use Rattle.scan_settings.specs.Values.{is_text}
 use Rattle.scan_settings.specs.Lawful.{IsText}

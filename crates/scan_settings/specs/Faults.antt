@@ -1,5 +1,5 @@
 -- Bad words, and what is said of them.
-use Rattle.std.specs.Prelude.{◌≡◌, ℕ, List, codes, Option, Some, Result, Ok, Err}
+use Rattle.std.specs.Prelude.{◌≡◌, ℕ, List, codes, Option, Some, Result, Err}
 use Rattle.scan_settings.specs.declared.fault.Why.{Why}
 use Rattle.scan_settings.specs.declared.fault.Why.TheVariants.{NoCommand, UnknownCommand, UnknownOption, Twice, TooMany, ValueMissing, BadNumber, UnknownScanner, BadText, ExtraWord, PlaceMissing, WordBounds}
 use Rattle.scan_settings.specs.declared.fault.BadWord.{BadWord}

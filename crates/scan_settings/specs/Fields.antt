@@ -1,5 +1,5 @@
 -- Where the fields of a record stand.
-use Rattle.std.specs.Prelude.{ℕ, zero, suc, ◌+◌, ◌<◌, ◌^◌, ◌&&◌, Bool, nat_lt, nat_le, length, List, [], ◌∷◌, take, drop, slice_index}
+use Rattle.std.specs.Prelude.{ℕ, zero, suc, ◌<◌, ◌^◌, ◌&&◌, Bool, nat_lt, nat_le, length, List, [], ◌∷◌, take, drop, slice_index}
 use Rattle.byte_kit.specs.Numbers.{le16, le64}
 use Rattle.std.specs.List.{list_all}
 use Rattle.scan_settings.specs.declared.values.NumberRange.{NumberRange}

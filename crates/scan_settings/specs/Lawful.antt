@@ -1,5 +1,5 @@
 -- In which ranges settings lie.
-use Rattle.std.specs.Prelude.{◌≡◌, ℕ, ◌<◌, ◌≤◌, ◌^◌, List, length}
+use Rattle.std.specs.Prelude.{ℕ, ◌<◌, ◌≤◌, ◌^◌, List, length}
 use Rattle.std.specs.List.{All}
 use Rattle.scan_settings.specs.declared.values.NumberRange.{NumberRange}
 use Rattle.scan_settings.specs.declared.settings.Plan.{Plan}

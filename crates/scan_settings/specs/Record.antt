@@ -1,5 +1,5 @@
 -- The settings record: what is kept of the settings of a scan, so that a later one can tell whether it is the same.
-use Rattle.std.specs.Prelude.{◌≡◌, ℕ, ◌+◌, ◌<◌, ◌≤◌, ◌^◌, List, [], ◌∷◌, ◌++◌, length}
+use Rattle.std.specs.Prelude.{ℕ, ◌<◌, ◌^◌, List, [], ◌∷◌, ◌++◌, length}
 use Rattle.std.specs.List.{All, flat_map}
 use Rattle.std.specs.Str.{IsUtf8}
 use Rattle.byte_kit.specs.Numbers.{le16_bytes, le32_bytes, le64_bytes}

@@ -1,13 +1,13 @@
 -- What options set: each setting by the options that give it, and the ranges in which settings lie.
-use Rattle.std.specs.Prelude.{◌≡◌, ℕ, ◌+◌, ◌-◌, ◌*◌, ◌^◌, ◌==◌, ◌<◌, ◌≤◌, Bool, List, [], ◌∷◌, map, filter, fold, length, codes, slice_index_or, String, Option, Some, None, option_map, option_and_then, unwrap_or, is_some, IsTrue, if◌then◌else◌, bytes_eq}
-use Rattle.std.specs.List.{All, find}
+use Rattle.std.specs.Prelude.{ℕ, ◌+◌, ◌-◌, ◌^◌, Bool, List, [], map, filter, fold, codes, slice_index_or, String, Option, Some, None, option_map, option_and_then, unwrap_or, is_some, if◌then◌else◌, bytes_eq}
+use Rattle.std.specs.List.{find}
 use Rattle.std.specs.String.{string_bytes}
 use Rattle.forensic_path.specs.declared.scanner.Scanner.{Scanner}
 use Rattle.forensic_path.specs.Scanners.{bit_of, is_on}
 use Rattle.scan_settings.specs.declared.values.NumberRange.{NumberRange}
 use Rattle.scan_settings.specs.declared.settings.Plan.{Plan}
 use Rattle.scan_settings.specs.declared.settings.Settings.{Settings}
-use Rattle.scan_settings.specs.Values.{number_in, scanner_of, is_text}
+use Rattle.scan_settings.specs.Values.{number_in, scanner_of}
 use Rattle.scan_settings.specs.Options.{page, margin, workers, depth, mask, word_min, word_max, context, spool_limit}
 
 -- the words as bytes

@@ -1,5 +1,5 @@
 -- Which words are options and which are places, the first bad word, and the command of lawful words.
-use Rattle.std.specs.Prelude.{◌≡◌, ℕ, ◌+◌, ◌-◌, ◌^◌, ◌==◌, ◌++◌, nat_lt, Bool, true, false, List, [], ◌∷◌, length, take, drop, codes, slice_index, Option, Some, None, option_map, unwrap_or, is_some, Result, Ok, Err, count_by, if◌then◌else◌, bytes_eq}
+use Rattle.std.specs.Prelude.{ℕ, ◌+◌, ◌-◌, ◌==◌, ◌++◌, nat_lt, Bool, true, false, List, [], ◌∷◌, length, take, drop, codes, slice_index, Option, Some, None, option_map, unwrap_or, is_some, Result, Ok, Err, count_by, if◌then◌else◌, bytes_eq}
 use Rattle.std.specs.Option.{option_or}
 use Rattle.scan_settings.specs.declared.action.Action.{Action}
 use Rattle.scan_settings.specs.declared.action.Action.TheVariants.{Scan, Generate}

@@ -1,7 +1,7 @@
-use Rattle.std.proofs.Common.{◌≡◌, ◌<◌, ◌≤◌, ◌++◌, true, false, [], length, append-nil, refl, sym, ap, ◌∙◌, arith}
+use Rattle.std.proofs.Common.{◌≡◌, ◌<◌, ◌≤◌, ◌++◌, true, length, append-nil, sym, ap, ◌∙◌, arith}
 use Rattle.std.proofs.lemmas.List.{length-map}
 use Rattle.scan_settings.specs.Settings.{texts, word_at}
-use Rattle.scan_settings.specs.Words.{begins_with_dash, options_fault}
+use Rattle.scan_settings.specs.Words.{begins_with_dash}
 use Rattle.scan_settings.proofs.Refused.{fault_from}
 use Rattle.scan_settings.proofs.Steps.{IsEnd, past_end, at_place, judged_more, options_more, place_more, judged_bad, judged_end}
 use Rattle.scan_settings.proofs.judge.read_options.Goals as goal

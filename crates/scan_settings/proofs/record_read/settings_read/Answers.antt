@@ -1,8 +1,7 @@
 use Rattle.std.proofs.Common.{◌≡◌, ◌≤◌, ℕ, List, length, true, false, sym, subst, ap, ◌∙◌, arith}
 use Rattle.std.specs.List.{All}
 use Rattle.std.specs.Str.{IsUtf8}
-use Rattle.scan_settings.specs.declared.record.Kept.{Kept}
-use Rattle.scan_settings.specs.Record.{record_of, IsKept}
+use Rattle.scan_settings.specs.Record.{record_of}
 use Rattle.scan_settings.specs.Fields.{is_ranged, patterns_at}
 use Rattle.scan_settings.proofs.Back.{record_long, patterns_back, same_kept}
 use Rattle.scan_settings.proofs.KeptRanges.{plan_ranged, kept_ranged, ranged_of}

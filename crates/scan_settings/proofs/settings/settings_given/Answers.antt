@@ -1,4 +1,4 @@
-use Rattle.std.proofs.Common.{sym, ap, ◌∙◌, is_some}
+use Rattle.std.proofs.Common.{ap, ◌∙◌, is_some}
 use Rattle.scan_settings.proofs.Given.{settings_by}
 use Rattle.scan_settings.proofs.settings.settings_given.Goals as goal
 

@@ -1,4 +1,4 @@
-use Rattle.std.proofs.Common.{sym, ◌∙◌, subst, ◌≡◌, ◌+◌, ◌<◌, length, None, ℕ, arith}
+use Rattle.std.proofs.Common.{sym, subst, ◌≡◌, length, arith}
 use Rattle.std.proofs.lemmas.List.{length-map}
 use Rattle.scan_settings.specs.Settings.{texts}
 use Rattle.scan_settings.specs.Words.{words_fault, place_in}

@@ -1,8 +1,8 @@
-use Rattle.std.proofs.Common.{◌≡◌, ◌<◌, length, sym, ◌∙◌, ap, Ok, arith}
+use Rattle.std.proofs.Common.{◌≡◌, ◌<◌, length, arith}
 use Rattle.std.proofs.lemmas.List.{length-map}
 use Rattle.std.proofs.lemmas.Bool.Decides.{nat_tests}
 use Rattle.scan_settings.specs.Settings.{texts}
-use Rattle.scan_settings.proofs.Whole.{no_command, unknown_command, good_command, bad_command, if_err, read}
+use Rattle.scan_settings.proofs.Whole.{no_command, unknown_command, bad_command, if_err, read}
 use Rattle.scan_settings.proofs.words.read_words.Goals as goal
 
 pub returns-then-is_empty-clause-bad : goal.returns-then-is_empty-clause-bad
