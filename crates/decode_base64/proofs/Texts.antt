@@ -1,5 +1,5 @@
 -- Where a text begins, and what is known of one.
-use Rattle.std.proofs.Common.{◌+◌, ◌<◌, inl, inr, ◌≡◌, ◌∙◌, ℕ, ◌≤◌, ◌&&◌, not, nat_le, Bool, true, false, List, length, take, refl, sym, ap, arith, ◌⊎◌, Some, None}
+use Rattle.std.proofs.Common.{◌+◌, ◌<◌, inl, inr, ◌≡◌, ◌∙◌, ℕ, ◌≤◌, ◌&&◌, not, nat_le, Bool, true, false, List, [], length, take, refl, subst, sym, ap, arith, ◌⊎◌, Some, None}
 use Rattle.std.specs.Prelude.{option_map, if◌then◌else◌}
 use Rattle.std.specs.List.{prefix_len, list_any}
 use Rattle.std.specs.Prelude.{slice_index}
@@ -73,6 +73,18 @@ module _ (look : Around) where
 
 pub none_from : (bytes : List ℕ) (first end : ℕ) → NoRowFrom base64_class LINE_LEAST bytes first end → NoneFrom base64_starts bytes first end
 none_from bytes first end none place low high = rw (none_of_row (look_at bytes place) (none place low high)) refl
+
+-- none begins up to a place, nor from there on
+pub none_further : (bytes : List ℕ) (first middle end : ℕ) → NoneFrom base64_starts bytes first middle → NoneFrom base64_starts bytes middle end
+    → NoneFrom base64_starts bytes first end
+none_further bytes first middle end ahead behind place low high =
+    elim (cases_lt place middle) [ inl below ↦ ahead place low below | inr above ↦ behind place above high ]
+
+-- none begins at a place that follows a line
+pub none_there : (bytes : List ℕ) (place : ℕ) → follows_line (look_at bytes place) ≡ true → NoneFrom base64_starts bytes place (place + 1)
+none_there bytes place follows k low high =
+    let e : place ≡ k = omega arith in
+    subst (λ p. base64_starts (look_at bytes p) p ≡ []) e (rw (none_behind (look_at bytes place) follows) refl)
 
 -- ---- where no letter stands
 

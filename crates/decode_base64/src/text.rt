@@ -31,7 +31,7 @@ pub fn b64_text(look: &Look) -> Option<Extent>
 }
 
 // A line break behind a line of at least `LINE_LEAST` letters stands right ahead.
-fn follows_line(before: &[u8]) -> bool
+pub(crate) fn follows_line(before: &[u8]) -> bool
     ensures { result ≡ list_any (ends_line before.now) line_breaks }
 {
     ends_line(before, b"\n") || ends_line(before, b"\r\n")
