@@ -1,7 +1,7 @@
 // Judges the options of a command, from left to right.
 ghost use Rattle.std.specs.Prelude.{◌≡◌, ◌+◌, ◌<◌, ◌≤◌, ◌^◌, ◌++◌, ◌∷◌, [], Some, None, IfOk, IfErr, OnOk, length};
 ghost use Rattle.scan_settings.specs.Faults.{IsFault};
-ghost use Rattle.scan_settings.specs.Settings.{texts, word_at};
+ghost use Rattle.scan_settings.specs.Settings.{texts};
 ghost use Rattle.scan_settings.specs.Words.{begins_with_dash, is_followed, is_for, takes_value, often_why, option_why, value_why, value_fault, count_named, option_fault, options_fault, options_in, place_in, behind};
 
 use crate::action::Action;
