@@ -1,6 +1,4 @@
 // Why words are refused.
-ghost use Rattle.std.specs.Prelude.{◌≡◌};
-ghost use Rattle.scan_settings.specs.Faults.{refusal_of};
 
 use byte_kit::NoMemory;
 use std::fmt;

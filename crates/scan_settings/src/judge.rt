@@ -1,7 +1,7 @@
 // Judges the options of a command, from left to right.
 ghost use Rattle.std.specs.Prelude.{◌≡◌, ◌+◌, ◌<◌, ◌≤◌, ◌^◌, ◌++◌, ◌∷◌, [], Some, None, IfOk, IfErr, OnOk, length};
 ghost use Rattle.scan_settings.specs.Faults.{IsFault};
-ghost use Rattle.scan_settings.specs.Settings.{texts, word_at};
+ghost use Rattle.scan_settings.specs.Settings.{texts};
 ghost use Rattle.scan_settings.specs.Words.{begins_with_dash, is_followed, is_for, takes_value, often_why, option_why, value_why, value_fault, count_named, option_fault, options_fault, options_in, place_in, behind};
 
 use crate::action::Action;
@@ -71,7 +71,7 @@ fn judge_option(action: Action, words: &[String], earlier: &[u32], at: u32) -> R
 {
     let name = word_at(words, at as usize);
     let form = form_of(name);
-    if let Some(why) = option_why(action, form, count_named(words, earlier, name)) {
+    if let Some(why) = option_why(action, form, words, earlier, name) {
         return Err(BadWord { word: at, why });
     }
     if let Some(bad) = value_fault(form, words, at + 1) {
@@ -115,12 +115,18 @@ fn takes_value(value: ValueKind) -> bool
     }
 }
 
-// Why an option is bad that was given so many times before.
-fn option_why(action: Action, form: Option<OptionForm>, given: usize) -> Option<Why>
-    ensures { result ≡ option_why action form given }
+// Why an option of this name is bad, behind those options.
+fn option_why(
+    action: Action,
+    form: Option<OptionForm>,
+    words: &[String],
+    earlier: &[u32],
+    name: &str,
+) -> Option<Why>
+    ensures { result ≡ option_why action form (count_named (texts words.now) earlier.now name.now) }
 {
     match form {
-        Some(form) if is_for(action, form.value) => often_why(form.often, given),
+        Some(form) if is_for(action, form.value) => often_why(form.often, words, earlier, name),
         _ => Some(Why::UnknownOption),
     }
 }
@@ -135,13 +141,16 @@ fn is_for(action: Action, value: ValueKind) -> bool
     }
 }
 
-fn often_why(often: Often, given: usize) -> Option<Why>
-    ensures { result ≡ often_why often given }
+// Options that may be given any number of times are not counted, since there may be very many.
+fn often_why(often: Often, words: &[String], earlier: &[u32], name: &str) -> Option<Why>
+    ensures { result ≡ often_why often (count_named (texts words.now) earlier.now name.now) }
 {
     match often {
         Often::Always => None,
-        Often::Once => (given != 0).then_some(Why::Twice),
-        Often::AtMost(most) => (given >= most).then_some(Why::TooMany),
+        Often::Once => (count_named(words, earlier, name) != 0).then_some(Why::Twice),
+        Often::AtMost(most) => {
+            (count_named(words, earlier, name) >= most).then_some(Why::TooMany)
+        }
     }
 }
 

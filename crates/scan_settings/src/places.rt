@@ -1,7 +1,7 @@
 // Judges the places of a command, and the words as a whole.
-ghost use Rattle.std.specs.Prelude.{◌≡◌, ◌+◌, ◌<◌, ◌≤◌, ◌^◌, length};
+ghost use Rattle.std.specs.Prelude.{◌≡◌, ◌<◌, ◌≤◌, ◌^◌, length};
 ghost use Rattle.scan_settings.specs.Settings.{texts, settings_given};
-ghost use Rattle.scan_settings.specs.Words.{seed, size, missing, number_fault, places_fault, bounds_fault};
+ghost use Rattle.scan_settings.specs.Words.{missing, number_fault, places_fault, bounds_fault};
 
 use crate::action::Action;
 use crate::fault::{BadWord, Why};

@@ -1,5 +1,5 @@
 // The settings record, written.
-ghost use Rattle.std.specs.Prelude.{◌≡◌, ◌+◌, ◌<◌, ◌≤◌, ◌^◌, ◌++◌, map, IfOk, OnOk, length};
+ghost use Rattle.std.specs.Prelude.{◌≡◌, ◌<◌, ◌^◌, ◌++◌, IfOk, OnOk, length};
 ghost use Rattle.std.specs.List.{All};
 ghost use Rattle.scan_settings.specs.Lawful.{AreSettings, IsText, IsPlan};
 ghost use Rattle.scan_settings.specs.Record.{text_bytes, texts_bytes, numbers_of, record_of, kept_by, kept_of};

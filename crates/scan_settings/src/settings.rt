@@ -1,5 +1,5 @@
 // The settings, and how the options among the words give them.
-ghost use Rattle.std.specs.Prelude.{◌≡◌, ◌≤◌, ◌<◌, ◌^◌, IfOk, codes};
+ghost use Rattle.std.specs.Prelude.{◌≡◌, ◌≤◌, ◌<◌, IfOk, codes};
 ghost use Rattle.scan_settings.specs.Settings.{texts, word_at, value_at, given_at, number_given, values_given, value_given, scanners_given, with_scanner, without_scanner, switched, plan_given, settings_given};
 
 use crate::options::{

@@ -1,5 +1,5 @@
 // The words of the command line.
-ghost use Rattle.std.specs.Prelude.{◌≡◌, ◌+◌, ◌-◌, ◌<◌, ◌≤◌, ◌^◌, [], map, take, drop, None, IfOk, IfErr, length};
+ghost use Rattle.std.specs.Prelude.{◌≡◌, ◌+◌, ◌<◌, ◌≤◌, ◌^◌, None, IfOk, IfErr, length};
 ghost use Rattle.scan_settings.specs.Faults.{IsFault, IsRefused};
 ghost use Rattle.scan_settings.specs.Lawful.{IsLawful};
 ghost use Rattle.scan_settings.specs.Settings.{texts, settings_given};
