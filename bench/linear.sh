@@ -10,21 +10,15 @@
 #   mimeN                        Base64 text in lines of N letters with CR LF, of random bytes
 #   hexN                         hexadecimal text in lines of N digits, of random bytes
 #   xor                          random bytes, searched in the XOR view too (`scan_speed xor`)
-set -u
-export LC_ALL=C
+# shellcheck source=bench/common.sh
+. "$(dirname "$0")/common.sh"
 
 RUNS=${RUNS:-3}
 SCAN_SPEED=${SCAN_SPEED:-crates/scan_speed/out/scan_speed}
 IMAGES=${IMAGES:-letters digits pairs words mime31 mime32 mime33 mime64 mime76 mime1000 mime70000 hex31 hex32 hex60 hex20000 xor}
-TIMEFORMAT='%3U %3S'
 
-for tool in awk base64 head mktemp tr yes; do
-    command -v "$tool" > /dev/null || { echo "skipped: no $tool"; exit 0; }
-done
-[ -x "$SCAN_SPEED" ] || { echo "skipped: no $SCAN_SPEED"; exit 0; }
-
-work=$(mktemp -d) || exit 1
-trap 'rm -rf "$work"' EXIT
+needs awk base64 fold head od tr yes
+needs_program "$SCAN_SPEED"
 
 # An image of the name, without end.
 bytes_of() {
@@ -39,25 +33,19 @@ bytes_of() {
     esac
 }
 
-# The least processor time of a scan of so many runs over an image, in milliseconds.
-least() {
-    local best='' spent search=all
+# The processor time of a scan of an image, in milliseconds, without the start of the program.
+spent_on() {
+    local search=all
     [ "$image" = xor ] && search=xor
-    for ((i = 0; i < RUNS; i++)); do
-        spent=$({ time "$SCAN_SPEED" "$search" "$1" "$2" > /dev/null 2>&1; } 2>&1) || return
-        spent=${spent//[.,]/}
-        spent=$((10#${spent% *} + 10#${spent#* }))
-        if [ -z "$best" ] || ((spent < best)); then best=$spent; fi
-    done
-    echo "$best"
+    echo $(($(least "$SCAN_SPEED" "$search" "$1" 2) - $(least "$SCAN_SPEED" "$search" "$1" 1)))
 }
 
 printf '%-10s %10s %10s %7s\n' image '4 MiB' '16 MiB' times
 for image in $IMAGES; do
     bytes_of "$image" 2> /dev/null | head -c 16777216 > "$work/large"
     head -c 4194304 "$work/large" > "$work/small"
-    small=$(($(least "$work/small" 2) - $(least "$work/small" 1)))
-    large=$(($(least "$work/large" 2) - $(least "$work/large" 1)))
+    small=$(spent_on "$work/small")
+    large=$(spent_on "$work/large")
     awk -v image="$image" -v small="$small" -v large="$large" 'BEGIN {
         printf "%-10s %10d %10d ", image, small, large
         if (small > 0) printf "%7.1f\n", large / small; else print "      -"

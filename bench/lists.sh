@@ -10,47 +10,29 @@
 #   contexts   each line is a feature and itself as its context, half as many lines
 #   both       two lists of features: what the stop list has is looked up in the alert list first
 #   hit miss   features that the list has, and others
-set -u
-export LC_ALL=C
+# shellcheck source=bench/common.sh
+. "$(dirname "$0")/common.sh"
 
 RUNS=${RUNS:-3}
 ENTRIES=${ENTRIES:-1048576}
 LIST_SPEED=${LIST_SPEED:-crates/list_speed/out/list_speed}
-TIMEFORMAT='%3U %3S'
 
-for tool in awk cut mktemp shuf wc; do
-    command -v "$tool" > /dev/null || { echo "skipped: no $tool"; exit 0; }
-done
-[ -x "$LIST_SPEED" ] || { echo "skipped: no $LIST_SPEED"; exit 0; }
-
-work=$(mktemp -d) || exit 1
-trap 'rm -rf "$work"' EXIT
+needs awk cut shuf wc
+needs_program "$LIST_SPEED"
 
 # Features of this form from a number on, as many as a list has entries.
 features() { awk -v form="$1" -v n="$ENTRIES" 'BEGIN { for (i = 0; i < n; i++) printf form "\n", i }'; }
 
-# The least processor time of a run with these words, in milliseconds.
-least() {
-    local best='' spent
-    for ((i = 0; i < RUNS; i++)); do
-        spent=$({ time "$LIST_SPEED" "$@" > /dev/null 2>&1; } 2>&1) || return
-        spent=${spent//[.,]/}
-        spent=$((10#${spent% *} + 10#${spent#* }))
-        if [ -z "$best" ] || ((spent < best)); then best=$spent; fi
-    done
-    echo "$best"
-}
-
 # The time to look up a line of a file in these lists, in nanoseconds, its reading included.
 look_up() {
-    local spent=$(($(least "$1" "$2" "$3" 1) - $(least "$1" "$2" "$work/none" 1)))
+    local spent=$(($(least "$LIST_SPEED" "$1" "$2" "$3" 1) - $(least "$LIST_SPEED" "$1" "$2" "$work/none" 1)))
     awk -v ms="$spent" -v lines="$(wc -l < "$3")" 'BEGIN { printf "%.0f", ms * 1000000 / lines }'
 }
 
 # A row: the times of a stop list and an alert list, and of these hits.
 row() {
     local name=$1 stop=$2 alert=$3 hits=$4 read
-    read=$(($(least "$stop" "$alert" "$work/none" 3) - $(least "$stop" "$alert" "$work/none" 1)))
+    read=$(($(least "$LIST_SPEED" "$stop" "$alert" "$work/none" 3) - $(least "$LIST_SPEED" "$stop" "$alert" "$work/none" 1)))
     printf '%-10s %8d %8s %8s\n' "$name" $((read / 2)) \
         "$(look_up "$stop" "$alert" "$hits")" "$(look_up "$stop" "$alert" "$work/misses")"
 }

@@ -17,8 +17,8 @@
 #
 # The images: files of this machine, one behind the other; random bytes; zeros. `-` stands where a
 # program fails, or where the time is too short to be told.
-set -u
-export LC_ALL=C
+# shellcheck source=bench/common.sh
+. "$(dirname "$0")/common.sh"
 
 RUNS=${RUNS:-10}
 MANY=${MANY:-11}
@@ -27,15 +27,9 @@ SCAN_SPEED=${SCAN_SPEED:-crates/scan_speed/out/scan_speed}
 PEER=${PEER:-}
 PEER_WORDS=${PEER_WORDS:-}
 SIZE=67108864
-TIMEFORMAT='%3U %3S'
 
-for tool in awk find head mktemp sort wc xargs cat; do
-    command -v "$tool" > /dev/null || { echo "skipped: no $tool"; exit 0; }
-done
-[ -x "$SCAN_SPEED" ] || { echo "skipped: no $SCAN_SPEED"; exit 0; }
-
-work=$(mktemp -d) || exit 1
-trap 'rm -rf "$work"' EXIT
+needs awk find head sort wc xargs cat
+needs_program "$SCAN_SPEED"
 
 # Files of the machine in the order of their names, up to 64 MiB of them.
 files() {
@@ -43,23 +37,10 @@ files() {
         | xargs -0 cat 2> /dev/null | head -c "$SIZE"
 }
 
-run_search() { "$SCAN_SPEED" "$1" "$2" "$3" > /dev/null 2>&1; }
 run_peer() {
     rm -rf "$work/out"
     # shellcheck disable=SC2086
     "$PEER" scan $PEER_WORDS "$1" "$work/out" > /dev/null 2>&1
-}
-
-# The least processor time of a command, in milliseconds; nothing where it fails.
-least() {
-    local best='' spent
-    for ((i = 0; i < RUNS; i++)); do
-        spent=$({ time "$@"; } 2>&1) || return
-        spent=${spent//[.,]/}
-        spent=$((10#${spent% *} + 10#${spent#* }))
-        if [ -z "$best" ] || ((spent < best)); then best=$spent; fi
-    done
-    echo "$best"
 }
 
 # GB a second of so many passes over an image, from the time of all and the time of what isn't counted.
@@ -81,8 +62,8 @@ printf '\n'
 for image in files random zeros; do
     printf '%-8s' "$image"
     for search in $SEARCHES; do
-        once=$(least run_search "$search" "$work/$image" 1)
-        many=$(least run_search "$search" "$work/$image" "$MANY")
+        once=$(least "$SCAN_SPEED" "$search" "$work/$image" 1)
+        many=$(least "$SCAN_SPEED" "$search" "$work/$image" "$MANY")
         printf ' %8s' "$(rate "$many" "$once" $((MANY - 1)))"
     done
     if [ -n "$PEER" ]; then

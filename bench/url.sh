@@ -10,8 +10,8 @@
 #
 # A ratio is that of its column to grep's. `-` stands where a program is missing, or where the time
 # is too short to be told from that of the empty file.
-set -u
-export LC_ALL=C
+# shellcheck source=bench/common.sh
+. "$(dirname "$0")/common.sh"
 
 RUNS=${RUNS:-20}
 MANY=${MANY:-101}
@@ -20,13 +20,8 @@ SCAN_SPEED=${SCAN_SPEED:-crates/scan_speed/out/scan_speed}
 SIZE=1048576
 URLS='(https?|ftp)://[]A-Za-z0-9._~:/?#[@!$&'\''()*+,;=%-]+'
 
-for tool in grep awk head mktemp cat; do
-    command -v "$tool" > /dev/null || { echo "skipped: no $tool"; exit 0; }
-done
+needs grep awk head cat
 [ -n "${EPOCHREALTIME:-}" ] || { echo "skipped: bash 5 or later is needed"; exit 0; }
-
-work=$(mktemp -d) || exit 1
-trap 'rm -rf "$work"' EXIT
 
 # Lines of 200 bytes, each with one URL.
 text() {
@@ -43,8 +38,8 @@ run_triage() { "$TRIAGE" scan "$1" "$work/out" > /dev/null; }
 run_grep() { grep -a -o -b -i -E "$URLS" "$1" | cat > /dev/null; }
 run_search() { "$SCAN_SPEED" url "$1" "$2" > /dev/null; }
 
-# The least time of a command, in microseconds.
-least() {
+# The least time of a command by the clock, in microseconds.
+least_clock() {
     local best=0 start spent
     for ((i = 0; i < RUNS; i++)); do
         rm -rf "$work/out"
@@ -65,18 +60,18 @@ head -c "$SIZE" /dev/urandom > "$work/random"
 text > "$work/text"
 : > "$work/empty"
 
-empty_grep=$(least run_grep "$work/empty")
-[ -x "$TRIAGE" ] && empty_triage=$(least run_triage "$work/empty")
+empty_grep=$(least_clock run_grep "$work/empty")
+[ -x "$TRIAGE" ] && empty_triage=$(least_clock run_triage "$work/empty")
 
 printf '%-8s %9s %7s %9s %7s %9s\n' image program ratio search ratio grep
 for image in zeros random text; do
-    by_grep=$(rate $(($(least run_grep "$work/$image") - empty_grep)) 1)
+    by_grep=$(rate $(($(least_clock run_grep "$work/$image") - empty_grep)) 1)
     by_triage=-
-    [ -x "$TRIAGE" ] && by_triage=$(rate $(($(least run_triage "$work/$image") - empty_triage)) 1)
+    [ -x "$TRIAGE" ] && by_triage=$(rate $(($(least_clock run_triage "$work/$image") - empty_triage)) 1)
     by_search=-
     if [ -x "$SCAN_SPEED" ]; then
-        once=$(least run_search "$work/$image" 1)
-        by_search=$(rate $(($(least run_search "$work/$image" "$MANY") - once)) $((MANY - 1)))
+        once=$(least_clock run_search "$work/$image" 1)
+        by_search=$(rate $(($(least_clock run_search "$work/$image" "$MANY") - once)) $((MANY - 1)))
     fi
     printf '%-8s %9s %7s %9s %7s %9s\n' "$image" \
         "$by_triage" "$(ratio "$by_triage" "$by_grep")" "$by_search" "$(ratio "$by_search" "$by_grep")" "$by_grep"
