@@ -1,7 +1,7 @@
 # make          prove and build the program, on all processors
 # make demo     scan a small image, and show the report
 # make check    every proof, test, program and must-fail edit, and the built program
-# make install  the built program to PREFIX/bin
+# make install  the built program to PREFIX/bin, and its manual page
 
 PREFIX ?= /usr/local
 JOBS ?= $(shell nproc 2> /dev/null || echo 2)
@@ -29,3 +29,4 @@ check:
 
 install: all
 	install -D -m 755 $(PROGRAM) $(DESTDIR)$(PREFIX)/bin/triage
+	install -D -m 644 docs/triage.1 $(DESTDIR)$(PREFIX)/share/man/man1/triage.1

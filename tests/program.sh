@@ -10,6 +10,7 @@ set -u
 export LC_ALL=C
 
 cd "$(dirname "$0")/.." || exit 1
+top=$PWD
 PROGRAM=${TRIAGE:-$PWD/crates/triage/out/triage}
 if [ ! -x "$PROGRAM" ]; then
     echo "skipped: no program at $PROGRAM"
@@ -66,7 +67,7 @@ judge() {
     local status=$1 got=$2 why=
     : > "$scratch/diff"
     [ "$got" = "$status" ] || why="status $got, not $status"
-    printf "$3" | diff - "$scratch/stdout" >> "$scratch/diff" 2>&1 || why="$why; the text differs"
+    printf -- "$3" | diff - "$scratch/stdout" >> "$scratch/diff" 2>&1 || why="$why; the text differs"
     printf "$error" | diff - "$scratch/stderr" >> "$scratch/diff" 2>&1 || why="$why; the error differs"
     diff -r "$scratch/have" "$scratch/want" >> "$scratch/diff" 2>&1 || why="$why; the folder differs"
     if [ -z "$why" ]; then
@@ -76,6 +77,12 @@ judge() {
         echo "failed: $name: ${why#; }"
         head -n 5 "$scratch/diff" | cut -c 1-200
     fi
+}
+
+# Ends a case of a bad word, which must be named so; standard error says where help is had.
+ends_usage() {
+    error='`triage --help` prints the words that there are\n'
+    ends 2 "$@"
 }
 
 SEE='see http://example.com/a b'
@@ -196,44 +203,68 @@ ends 0 'done pages=1 features=20000\nurl.txt 20000\n' scan image out
 # ---- words
 
 begin 'no words'
-ends 2 'usage: word 0: no command\n'
+ends_usage 'usage: word 0: no command\n'
 
 begin 'an unknown command'
 both image "$SEE"
-ends 2 'usage: word 0: unknown command\n' scam image out
+ends_usage 'usage: word 0: unknown command\n' scam image out
 
-begin 'a word for help'
-ends 2 'usage: word 0: unknown command\n' --help
+# The program prints this page, status 0, whatever of these words is the only one.
+ends_page() {
+    local page=$1 word
+    shift
+    for word in "$@"; do
+        begin "the word $word alone"
+        ends 0 "$page" "$word"
+    done
+}
+HELP=$("$PROGRAM" --help | sed 's/[\\%]/&&/g' && echo .)
+ends_page "${HELP%.}" --help -h help
+ends_page 'triage 0.1.0\n' --version -V
+
+begin 'a word for help and another one'
+ends_usage 'usage: word 0: unknown command\n' --help scan
+begin 'a word for help in place of an option'
+ends_usage 'usage: word 1: unknown option\n' scan --help
+
+# The options that a text names, one a line.
+options_in() { grep -o -E -e '--[a-z-]+' "$1" | sort -u; }
+begin 'the help page and the manual name the same options'
+"$PROGRAM" --help > "$scratch/help"
+sed 's/\\-/-/g' "$top/docs/triage.1" > "$scratch/manual"
+options_in "$scratch/help" > "$scratch/stdout"
+: > "$scratch/stderr"
+judge 0 0 "$(options_in "$scratch/manual")\n"
 
 begin 'an option that is not known'
 both image "$SEE"
-ends 2 'usage: word 1: unknown option\n' scan -x image out
+ends_usage 'usage: word 1: unknown option\n' scan -x image out
 
 begin 'a place that is missing'
 both image "$SEE"
-ends 2 'usage: word 2: place missing\n' scan image
+ends_usage 'usage: word 2: place missing\n' scan image
 
 begin 'an option without its value'
 both image "$SEE"
-ends 2 'usage: word 2: value missing\n' scan --find
+ends_usage 'usage: word 2: value missing\n' scan --find
 
 begin 'a keyword of no byte'
 both image "$SEE"
-ends 2 'usage: word 2: bad text\n' scan --find '' image out
+ends_usage 'usage: word 2: bad text\n' scan --find '' image out
 begin 'a keyword of 257 bytes'
 both image "$SEE"
-ends 2 'usage: word 4: bad text\n' scan --pattern a --find "$(printf 'x%.0s' $(seq 257))" image out
+ends_usage 'usage: word 4: bad text\n' scan --pattern a --find "$(printf 'x%.0s' $(seq 257))" image out
 begin 'a pattern of 257 bytes'
 both image "$SEE"
-ends 2 'usage: word 2: bad text\n' scan --pattern "$(printf 'x%.0s' $(seq 257))" image out
+ends_usage 'usage: word 2: bad text\n' scan --pattern "$(printf 'x%.0s' $(seq 257))" image out
 
 begin 'a keyword too many'
 both image "$SEE"
-ends 2 'usage: word 129: too many\n' scan $(printf -- '--find x %.0s' $(seq 65)) image out
+ends_usage 'usage: word 129: too many\n' scan $(printf -- '--find x %.0s' $(seq 65)) image out
 
 begin 'a pattern too many'
 both image "$SEE"
-ends 2 'usage: word 9: too many\n' scan --pattern a --pattern b --pattern c --pattern d --pattern e image out
+ends_usage 'usage: word 9: too many\n' scan --pattern a --pattern b --pattern c --pattern d --pattern e image out
 
 begin 'a pattern that is refused'
 both image "$SEE"
@@ -244,7 +275,7 @@ ends 5 'pattern refused: 1\n' scan --pattern a --pattern '[' image out
 
 begin 'two hundred words'
 both image "$SEE"
-ends 2 'usage: word 66: too many\n' scan $(yes image | head -n 199)
+ends_usage 'usage: word 66: too many\n' scan $(yes image | head -n 199)
 
 begin 'a word that is no UTF-8'
 both image "$SEE"
@@ -340,7 +371,11 @@ if [ -c /dev/full ]; then
 
     begin 'a refusal that can not be printed'
     both image "$SEE"
+    error='`triage --help` prints the words that there are\n'
     ends_full 2 scan image
+
+    begin 'a help page that can not be printed'
+    ends_full 13 --help
 fi
 
 # ---- memory

@@ -1,12 +1,14 @@
 //! The program `triage`. `main` makes a source over real files, a disk over a real folder, a kit that reads
 //! patterns as the `regex` crate does and a sink over standard output, calls `triage_run::triage`, and ends
-//! with the number of its status. What the call puts is printed. Standard error has a line where a word is not UTF-8, and nothing else.
+//! with the number of its status. What the call puts is printed. Standard error has a line where a word is bad, and
+//! nothing else. A command line that asks for the help page or for the version makes no call.
 #![tactic(auto)]
 
 ghost use Rattle.std.specs.Prelude.{◌<◌, ◌^◌, length, vec_len, IfOk};
 
 mod file_source;
 mod folder_disk;
+mod help;
 mod stdout_sink;
 #[cfg(test)]
 mod tests;
@@ -14,6 +16,7 @@ mod tests;
 use byte_kit::NoMemory;
 use file_source::FileSource;
 use folder_disk::FolderDisk;
+use help::{HINT, lines_asked};
 use pattern_kit::RegexKit;
 use std::process::ExitCode;
 use std::{env, io};
@@ -28,7 +31,7 @@ const WORDS_MOST: usize = (1 << 32) - 1;
 
 fn main(rt: HostRuntime) -> ExitCode {
     let status = match words_of(&rt) {
-        Ok(words) => scan(&rt, words.as_slice()),
+        Ok(words) => answer(&rt, words.as_slice()),
         Err(status) => status,
     };
     ExitCode::from(status)
@@ -61,14 +64,38 @@ fn words_of(rt: &HostRuntime) -> Result<Vec<String>, u8>
     Ok(words)
 }
 
+// Prints the text that the words ask for, or does what they say, and answers the exit status.
+fn answer(rt: &HostRuntime, words: &[String]) -> u8
+    requires { length words.now < 2 ^ 32 }
+{
+    match lines_asked(words) {
+        Some(lines) => print_lines(rt, lines),
+        None => scan(rt, words),
+    }
+}
+
+// Prints lines, and answers the exit status.
+fn print_lines(rt: &HostRuntime, lines: &[&str]) -> u8 {
+    for line in lines {
+        if println!(rt; "{line}").is_err() {
+            return Status::OutFault.number();
+        }
+    }
+    Status::Done.number()
+}
+
 // Does what the words say over real files, and answers the exit status.
 fn scan(rt: &HostRuntime, words: &[String]) -> u8
     requires { length words.now < 2 ^ 32 }
 {
-    match outcome_of(rt, words) {
-        Ok(status) => status.number(),
-        Err(NoMemory) => Status::NoMemory.number(),
+    let status = match outcome_of(rt, words) {
+        Ok(status) => status,
+        Err(NoMemory) => Status::NoMemory,
+    };
+    if let Status::Usage { .. } = status {
+        let _ = eprintln!(rt; "{HINT}");
     }
+    status.number()
 }
 
 // How the call ends. What was made for it wants memory at the worst.
