@@ -1,4 +1,4 @@
--- What options set: each setting by the options that give it, and the ranges in which settings lie.
+-- What options set: each setting by the options that give it.
 use Rattle.std.specs.Prelude.{ℕ, ◌+◌, ◌-◌, ◌^◌, Bool, List, [], map, filter, fold, codes, slice_index_or, String, Option, Some, None, option_map, option_and_then, unwrap_or, is_some, if◌then◌else◌, bytes_eq}
 use Rattle.std.specs.List.{find}
 use Rattle.std.specs.String.{string_bytes}

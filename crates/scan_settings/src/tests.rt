@@ -1,3 +1,6 @@
+ghost use Rattle.std.specs.Prelude.{IfOk};
+ghost use Rattle.scan_settings.specs.Lawful.{AreSettings, IsLawful};
+
 use crate::{Command, Settings, Why, WordsFault, read_words};
 use byte_kit::NoMemory;
 use std::alloc::Global;
@@ -10,7 +13,9 @@ mod settings;
 const WORDS_MOST: usize = 200;
 
 // What these words are read as.
-fn read(alloc: Global, words: &[&str]) -> Result<Result<Command, WordsFault>, NoMemory> {
+fn read(alloc: Global, words: &[&str]) -> Result<Result<Command, WordsFault>, NoMemory>
+    ensures { IfOk result (λ read. IfOk read IsLawful) }
+{
     let mut texts = Vec::new(alloc);
     for word in words {
         texts.push(String::from_str(alloc, word)?)?;
@@ -22,7 +27,9 @@ fn read(alloc: Global, words: &[&str]) -> Result<Result<Command, WordsFault>, No
 }
 
 // The settings of a command.
-fn settings_of(command: &Command) -> &Settings {
+fn settings_of(command: &Command) -> &Settings
+    ensures { IsLawful command.now → AreSettings result.now }
+{
     match command {
         Command::Scan { settings, .. } => settings,
         Command::Generate { settings, .. } => settings,

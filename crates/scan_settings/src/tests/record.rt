@@ -1,6 +1,6 @@
 // The settings record, both ways.
-use super::read;
-use crate::{Command, settings_bytes, settings_read};
+use super::{read, settings_of};
+use crate::{settings_bytes, settings_read};
 use byte_kit::{Bytes, NoMemory};
 use std::alloc::Global;
 use std::test::Fail;
@@ -20,10 +20,8 @@ fn written(
     alert: u64,
 ) -> Result<Bytes, Fail> {
     match read(alloc, words)? {
-        Ok(Command::Scan { settings, .. }) => {
-            Ok(settings_bytes(alloc, &settings, image, stop, alert)?)
-        }
-        _ => Err(Fail::new("refused")),
+        Ok(command) => Ok(settings_bytes(alloc, settings_of(&command), image, stop, alert)?),
+        Err(_) => Err(Fail::new("refused")),
     }
 }
 
