@@ -3,7 +3,7 @@
 use byte_kit::NoMemory;
 use std::fmt;
 
-/// Why a word is bad. Its text is what a usage line says of it.
+/// Why a word is bad.
 #[derive(Clone, Copy, Debug, PartialEq, Eq)]
 pub enum Why {
     /// There is no word.
@@ -32,14 +32,15 @@ pub enum Why {
     WordBounds,
 }
 
-impl fmt::Display for Why {
-    ghost use Rattle.std.specs.Prelude.{Some};
+impl Why {
+    ghost use Rattle.std.specs.Prelude.{◌≡◌};
     ghost use Rattle.scan_settings.specs.Faults.{why_text};
 
-    ghost output = { λ why. Some (why_text why) };
-
-    fn fmt<W: fmt::Write>(&self, f: &mut fmt::Formatter<W>) -> fmt::Result {
-        f.write_str(match self {
+    /// What a usage line says of it.
+    pub fn text(self) -> &'static str
+        ensures { result.now ≡ why_text self }
+    {
+        match self {
             Why::NoCommand => "no command",
             Why::UnknownCommand => "unknown command",
             Why::UnknownOption => "unknown option",
@@ -52,7 +53,18 @@ impl fmt::Display for Why {
             Why::ExtraWord => "extra word",
             Why::PlaceMissing => "place missing",
             Why::WordBounds => "word bounds crossed",
-        })
+        }
+    }
+}
+
+impl fmt::Display for Why {
+    ghost use Rattle.std.specs.Prelude.{Some};
+    ghost use Rattle.scan_settings.specs.Faults.{why_text};
+
+    ghost output = { λ why. Some (why_text why) };
+
+    fn fmt<W: fmt::Write>(&self, f: &mut fmt::Formatter<W>) -> fmt::Result {
+        f.write_str(self.text())
     }
 }
 

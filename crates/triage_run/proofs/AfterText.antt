@@ -1,16 +1,22 @@
 -- From the end of a scan to the end of its call, which puts a text behind it: what the one bears, the other bears.
-use Rattle.std.proofs.Common.{◌≡◌, inl, inr, sym, ap, subst, arith, ℕ, ◌<◌, List, Option, Some, None, Result, Ok, Err, IfErr}
-use Rattle.std.specs.Prelude.{IfSome}
+use Rattle.std.proofs.Common.{◌≡◌, inl, inr, sym, ap, subst, arith, ℕ, ◌<◌, List, Option, Some, None, Result, Ok, Err, IfErr, IfOk}
+use Rattle.std.specs.Prelude.{IfSome, option_map}
 use Rattle.triage_run.specs.declared.status.Status.{Status}
-use Rattle.triage_run.specs.declared.status.Status.TheVariants.{Done, Usage, ReadFault, PatternRefused, DiskFault, OutFault, NoMemory, NotYet}
-use Rattle.triage_run.specs.declared.status.ReadPlace.TheVariants.{Image, Page}
-use Rattle.triage_run.specs.declared.status.Unbuilt.TheVariants.{Parts, Size}
-use Rattle.triage_run.specs.Call.{Call, IsCause, IsExact, HasReadings, HasParts, HasFound, found_told}
+use Rattle.triage_run.specs.declared.status.Status.TheVariants.{Done, Usage, ListTooLong, OutFault, NoMemory, NotYet}
+use Rattle.triage_run.specs.declared.status.List.{List as ListName}
+use Rattle.triage_run.specs.declared.status.List.TheVariants.{Stop, Alert}
+use Rattle.triage_run.specs.declared.status.Unbuilt.{Unbuilt}
+use Rattle.triage_run.specs.declared.status.Unbuilt.TheVariants.{Generate, Parts, Log, Size}
+use Rattle.triage_run.specs.Case.{Case}
+use Rattle.triage_run.specs.Call.{Call, case_of, found_text, IsCause, IsExact, HasLists, HasReadings, HasParts, HasFound}
+use Rattle.triage_run.proofs.Grown.{grown, cause_grown, exact_grown}
 use Rattle.triage_run.specs.Status.{step_of, scanned_as, EndsAs, IsOrEarlier, IsBehind, IsRefusal}
-use Rattle.triage_run.specs.Steps.{any, build, attach, end}
-use Rattle.triage_run.specs.Words.{ScanWords}
-use Rattle.triage_run.specs.declared.words.BadWord.{BadWord}
-use Rattle.triage_run.specs.Text.{Counts, counts_text, counts_told, text_of, IsPut}
+use Rattle.triage_run.specs.Steps.{any, alert_size, build, attach, end}
+use Rattle.triage_run.specs.Words.{unbuilt_of}
+use Rattle.scan_settings.specs.declared.fault.BadWord.{BadWord}
+use Rattle.scan_settings.specs.declared.words.Command.{Command}
+use Rattle.report_publish.specs.declared.publish.TheConstants.{FILES_BUILT}
+use Rattle.triage_run.specs.Text.{Counts, counts_of, counts_text, counts_told, line_of, text_of, IsPut, IsPutInPart}
 
 -- what holds of the status of a scan, of want of memory, and of a sink that failed behind a scan that was done
 after : (P : Status → Type 0) (rose : Type 0) (scanned status : Status) → EndsAs rose scanned status →
@@ -40,37 +46,39 @@ or_earlier_after rose said scanned status some early ends hidden =
 
 module _ {R : Type 0} (call : Call R) (rose : Type 0) (takes : List ℕ → Type 0) where
   abbrev printed : Call R
-  printed = record call { sink_rose = rose; takes = takes }
-
-  cause_kept : (call.sink_rose → rose) → (status : Status) → IsCause call status → IsCause printed status
-  cause_kept risen Done cause = cause
-  cause_kept risen NoMemory cause = tt
-  cause_kept risen (Usage word why) cause = cause
-  cause_kept risen (ReadFault Image) cause = cause
-  cause_kept risen (ReadFault (Page page)) cause = cause
-  cause_kept risen (PatternRefused index) cause = cause
-  cause_kept risen DiskFault cause = cause
-  cause_kept risen OutFault cause = (risen cause.0, cause.1)
-  cause_kept risen (NotYet Parts) cause = cause
-  cause_kept risen (NotYet (Size bytes)) cause = record { one = cause.one; size = cause.size; large = cause.large }
+  printed = grown call call.source_rose rose takes
 
   pub cause_after : (call.sink_rose → rose) → (scanned status : Status) → EndsAs rose scanned status → IsCause call scanned → IsCause printed status
   cause_after risen scanned status ends cause =
-      after (IsCause printed) rose scanned status ends (cause_kept risen scanned cause) tt
-      (λ done failed. (failed, subst (IsCause call) done cause))
+      after (IsCause printed) rose scanned status ends (cause_grown call call.source_rose rose takes (λ rose. rose) risen scanned cause) tt
+      (λ done failed. let is_done = subst (IsCause call) done cause in (failed, is_done.0, is_done.1))
 
   pub exact_after : (scanned status : Status) → EndsAs rose scanned status → IsExact call scanned → IsExact printed status
   exact_after scanned status ends exact = record {
     usage = usage_after call.command exact.usage;
-    parts = λ many. or_earlier_after rose (NotYet Parts) scanned status (omega arith) (omega arith) ends (exact.parts many);
-    size = λ bytes large. or_earlier_after rose (NotYet (Size bytes)) scanned status (omega arith) (omega arith) ends
-        (exact.size bytes (record { one = large.one; size = large.size; large = large.large }));
+    form = form_after (unbuilt_of call.command) exact.form;
+    list = λ list bytes long. list_after list bytes (exact.list list bytes long);
+    size = λ bytes large. or_earlier_after rose (NotYet (Size bytes)) scanned status (omega arith) (omega arith) ends (exact.size bytes large);
   }
     where
-      usage_after : (command : Result ScanWords BadWord) → IfErr command (λ bad. IsOrEarlier (Usage bad.word bad.why) scanned) →
+      usage_after : (command : Result Command BadWord) → IfErr command (λ bad. IsOrEarlier (Usage bad.word bad.why) scanned) →
           IfErr command (λ bad. IsOrEarlier (Usage bad.word bad.why) status)
-      usage_after (Ok scan) hidden = tt
+      usage_after (Ok command) hidden = tt
       usage_after (Err bad) hidden = or_earlier_after rose (Usage bad.word bad.why) scanned status (omega arith) (omega arith) ends hidden
+
+      form_after : (form : Option Unbuilt) → IfSome form (λ what. IsOrEarlier (NotYet what) scanned) → IfSome form (λ what. IsOrEarlier (NotYet what) status)
+      form_after None hidden = tt
+      form_after (Some Generate) hidden = or_earlier_after rose (NotYet Generate) scanned status (omega arith) (omega arith) ends hidden
+      form_after (Some Parts) hidden = or_earlier_after rose (NotYet Parts) scanned status (omega arith) (omega arith) ends hidden
+      form_after (Some Log) hidden = or_earlier_after rose (NotYet Log) scanned status (omega arith) (omega arith) ends hidden
+      form_after (Some (Size bytes)) hidden = or_earlier_after rose (NotYet (Size bytes)) scanned status (omega arith) (omega arith) ends hidden
+
+      list_after : (list : ListName) (bytes : ℕ) → IsOrEarlier (ListTooLong list bytes) scanned → IsOrEarlier (ListTooLong list bytes) status
+      list_after Stop bytes hidden = or_earlier_after rose (ListTooLong Stop bytes) scanned status (omega arith) (omega arith) ends hidden
+      list_after Alert bytes hidden = or_earlier_after rose (ListTooLong Alert bytes) scanned status (omega arith) (omega arith) ends hidden
+
+  pub lists_after : (scanned status : Status) → EndsAs rose scanned status → HasLists call scanned → HasLists printed status
+  lists_after scanned status ends lists = λ behind. lists (behind_after rose alert_size scanned status ends behind)
 
   pub readings_after : (scanned status : Status) → EndsAs rose scanned status → HasReadings call scanned → HasReadings printed status
   readings_after scanned status ends readings = λ behind. readings (behind_after rose build scanned status ends behind)
@@ -85,23 +93,29 @@ pub not_done : (rose : Type 0) (refusal status : Status) → IsRefusal refusal �
 not_done rose refusal status refused ends =
     after IsRefusal rose refusal status ends refused tt (λ done risen. absurd (subst IsRefusal done refused))
 
--- the text of what was found is that of the image, where a scan has one that is told
+-- the text of what was found is that of the case, where this is told
 pub text_after : {R : Type 0} (call : Call R) (rose : Type 0) (takes : List ℕ → Type 0) (scanned : Result Counts Status) (status : Status) →
     IfErr scanned IsRefusal → EndsAs rose (scanned_as scanned) status → HasFound call scanned →
     IfSome (text_of (counts_told scanned) status) (IsPut takes rose status) →
-    IfSome (text_of (found_told call call.command) status) (IsPut takes rose status)
-text_after call rose takes scanned status refused ends found put = by_case call.command call.image scanned status refused ends found put
+    IfSome (text_of (option_map (found_text call) (case_of call)) status) (IsPut takes rose status)
+text_after {R = R} call rose takes scanned status refused ends found put = by_case (case_of call) scanned status refused ends found put
   where
-    by_case : (command : Result ScanWords BadWord) (image : Option (List ℕ)) (scanned : Result Counts Status) (status : Status) →
-        IfErr scanned IsRefusal → EndsAs rose (scanned_as scanned) status → HasFound (record call { command = command; image = image }) scanned →
+    by_case : (told : Option (Case R)) (scanned : Result Counts Status) (status : Status) →
+        IfErr scanned IsRefusal → EndsAs rose (scanned_as scanned) status →
+        IfOk scanned (λ found. IfSome told (λ c. found ≡ counts_of call.matches FILES_BUILT c)) →
         IfSome (text_of (counts_told scanned) status) (IsPut takes rose status) →
-        IfSome (text_of (found_told (record call { command = command; image = image }) command) status) (IsPut takes rose status)
-    by_case (Ok scan) None (Ok found) Done refused ends is put = tt
-    by_case (Ok scan) None (Ok found) OutFault refused ends is put = tt
-    by_case (Err bad) image (Ok found) Done refused ends is put = tt
-    by_case (Err bad) image (Ok found) OutFault refused ends is put = tt
-    by_case (Ok scan) (Some image) (Ok found) Done refused ends is put = subst (λ f. IsPut takes rose Done (counts_text f)) is put
-    by_case (Ok scan) (Some image) (Ok found) OutFault refused ends is put = subst (λ f. IsPut takes rose OutFault (counts_text f)) is put
-    by_case command image (Err refusal) Done refused ends is put = absurd (not_done rose refusal Done refused ends)
-    by_case command image (Err refusal) OutFault refused ends is put = absurd (not_done rose refusal OutFault refused ends)
-    by_case command image scanned _ refused ends is put = put
+        IfSome (text_of (option_map (found_text call) told) status) (IsPut takes rose status)
+    by_case None (Ok found) Done refused ends is put = tt
+    by_case None (Ok found) OutFault refused ends is put = tt
+    by_case (Some c) (Ok found) Done refused ends is put = subst (λ f. IsPut takes rose Done (counts_text f)) is put
+    by_case (Some c) (Ok found) OutFault refused ends is put = subst (λ f. IsPut takes rose OutFault (counts_text f)) is put
+    by_case told (Err refusal) Done refused ends is put = absurd (not_done rose refusal Done refused ends)
+    by_case told (Err refusal) OutFault refused ends is put = absurd (not_done rose refusal OutFault refused ends)
+    by_case told scanned _ refused ends is put = put
+
+-- the line of a refusal is its text
+pub line_put : (takes : List ℕ → Type 0) (rose : Type 0) (refusal : Status) → IsRefusal refusal → IsPutInPart takes rose (line_of refusal) →
+    IfSome (text_of None refusal) (IsPut takes rose refusal)
+line_put takes rose Done refused put = absurd refused
+line_put takes rose OutFault refused put = absurd refused
+line_put takes rose _ refused put = put

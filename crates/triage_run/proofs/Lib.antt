@@ -1,10 +1,6 @@
 pub mod AfterText
-pub mod Commands
+pub mod Ends
 pub mod FirstSource
-pub mod LawfulPlans
-pub mod OnePart
+pub mod Grown
 pub mod Readings
-pub mod Refusals
-mod ReportRows
-mod TextRows
 pub mod WholeReport

@@ -1,5 +1,5 @@
 -- What a scan is of, and the report that it leaves.
-use Rattle.std.specs.Prelude.{◌≡◌, ℕ, ◌++◌, ◌==◌, ◌/◌, not, ◌||◌, Bool, IsTrue, List, [], ◌∷◌, map, filter, Option, Some, None, IfSome, IsSomeAnd, option_map, option_and_then, if◌then◌else◌}
+use Rattle.std.specs.Prelude.{◌≡◌, ℕ, ◌++◌, ◌==◌, ◌/◌, not, ◌||◌, Bool, IsTrue, List, [], ◌∷◌, map, filter, Option, Some, None, IsSomeAnd, option_map, option_and_then, if◌then◌else◌}
 use Rattle.forensic_path.specs.declared.feature.Classed.{Classed}
 use Rattle.host_disk.specs.Files.{Files}
 use Rattle.scan_set.specs.declared.plan.ScanPlan.{ScanPlan}
@@ -8,8 +8,8 @@ use Rattle.stop_lists.specs.Lists.{classed_by}
 use Rattle.feature_file.specs.Files.{is_written, is_histogram}
 use Rattle.feature_file.specs.FeatureFile.{file_text}
 use Rattle.count_histogram.specs.Histogram.{histogram_text}
-use Rattle.report_publish.specs.declared.publish.TheConstants.{FILES_BUILT}
-use Rattle.triage_run.specs.declared.plan.TheConstants.{PAGE_BYTES}
+use Rattle.report_publish.specs.Publish.{files_for}
+use Rattle.triage_run.specs.declared.words.Scan.{Scan}
 
 -- the input of a scan as plain data; a reading is what the text of a pattern was read as
 pub record Case (R : Type 0) : Type 0 where
@@ -41,15 +41,16 @@ module _ {R : Type 0} (matches : R → List ℕ → Option ℕ) where
   AreReport [] c files = Unit {0}
   AreReport (number ∷ numbers) c files = IsSomeAnd (report c number) (λ text. files number ≡ text) × AreReport numbers c files
 
+  -- the files of the scanners that are on are the report, where the disk tells its files
+  abbrev pub LeavesReport : Case R → Bool → Files → Type 0
+  LeavesReport c tells files = IsTrue tells → AreReport (files_for c.plan.scanners) c files
+
 -- the parts of an image, joined, where all of them are told
 abbrev pub joined : (List ℕ → Option (List ℕ)) → List (List ℕ) → Option (List ℕ)
 joined told [] = Some []
 joined told (name ∷ names) = option_and_then (λ bytes. option_map (λ rest. bytes ++ rest) (joined told names)) (told name)
 
--- the case of a plan, whose patterns were read so, and an image
-abbrev pub case_by : {R : Type 0} → ScanPlan → List R → List ℕ → Case R
-case_by plan readings image = record { image = image; stop = []; alert = []; page = PAGE_BYTES; plan = plan; readings = readings }
-
--- the files that are built are the report of the image, as far as the image and the disk's files are told
-abbrev pub LeavesReport : {R : Type 0} → (R → List ℕ → Option ℕ) → (List ℕ → Case R) → Option (List ℕ) → Bool → Files → Type 0
-LeavesReport matches case image tells files = IfSome image (λ bytes. IsTrue tells → AreReport matches FILES_BUILT (case bytes) files)
+-- the case of a scan whose patterns were read so, of a stop list, an alert list and an image
+abbrev pub case_by : {R : Type 0} → Scan → List R → List ℕ → List ℕ → List ℕ → Case R
+case_by scan readings stop alert image =
+    record { image = image; stop = stop; alert = alert; page = scan.page; plan = scan.plan; readings = readings }

@@ -1,12 +1,13 @@
 -- What a call leaves as it was.
-use Rattle.std.specs.Prelude.{◌≡◌, ℕ, ◌≤◌, Bool, List, Option, false, IsTrue}
+use Rattle.std.specs.Prelude.{◌≡◌, ℕ, ◌≤◌, Bool, List, [], Option, Some, None, false, IsTrue}
 use Rattle.host_source.specs.Source.{SourceNature}
 use Rattle.host_source.specs.Sink.{Takes}
 use Rattle.host_disk.specs.Files.{Files}
 use Rattle.host_disk.specs.Disk.{DiskNature}
 use Rattle.pattern_kit.specs.Building.{Refusals}
-use Rattle.report_publish.specs.Publish.{is_for}
-use Rattle.triage_run.specs.declared.plan.TheConstants.{SCANNERS_BUILT}
+use Rattle.byte_kit.specs.Classes.{is_one_of}
+use Rattle.report_publish.specs.Publish.{files_for}
+use Rattle.triage_run.specs.declared.words.Scan.{Scan}
 
 -- a source tells what it told, and its count of faults is no lower
 pub record KeepsSource {S : Type 0} (nature : S → SourceNature) (faults : S → ℕ) (old new : S) : Type 0 where
@@ -28,6 +29,11 @@ pub record KeepsSink {O : Type 0} (taken : O → Option (List ℕ)) (faults : O 
   pub behind : (bytes : List ℕ) × Takes (taken old) (taken new) bytes
   pub later : faults old ≤ faults new
 
--- no file differs but those of the report, as far as the disk tells its files
-abbrev pub KeepsOthers : DiskNature → Files → Files → Type 0
-KeepsOthers nature old new = IsTrue nature.tells → (file : ℕ) → is_for SCANNERS_BUILT file ≡ false → new file ≡ old file
+-- the files that a scan writes
+abbrev pub files_of : Option Scan → List ℕ
+files_of (Some scan) = files_for scan.plan.scanners
+files_of None = []
+
+-- no file differs but these, as far as the disk tells its files
+abbrev pub KeepsOthers : List ℕ → DiskNature → Files → Files → Type 0
+KeepsOthers numbers nature old new = IsTrue nature.tells → (file : ℕ) → is_one_of numbers file ≡ false → new file ≡ old file

@@ -9,34 +9,50 @@ any = 0
 abbrev pub words : ℕ
 words = 1
 
--- the number of parts is tested
-abbrev pub parts : ℕ
-parts = 2
+-- the form of the command is tested
+abbrev pub form : ℕ
+form = 2
+
+-- the stop list is attached
+abbrev pub stop_list : ℕ
+stop_list = 3
+
+-- its size is tested, and it is read
+abbrev pub stop_size : ℕ
+stop_size = 4
+
+-- the alert list is attached
+abbrev pub alert_list : ℕ
+alert_list = 5
+
+-- its size is tested, and it is read
+abbrev pub alert_size : ℕ
+alert_size = 6
 
 -- the patterns are built
 abbrev pub build : ℕ
-build = 3
+build = 7
 
 -- the parts of the image are attached
 abbrev pub attach : ℕ
-attach = 4
+attach = 8
 
 -- the size of the image is tested
 abbrev pub size : ℕ
-size = 5
+size = 9
 
 -- the folder is mounted
 abbrev pub mount : ℕ
-mount = 6
+mount = 10
 
 -- the image is read
 abbrev pub read : ℕ
-read = 7
+read = 11
 
 -- the report stands, and its text is put
 abbrev pub print : ℕ
-print = 8
+print = 12
 
 -- the text was put
 abbrev pub end : ℕ
-end = 9
+end = 13

@@ -6,46 +6,47 @@ use Rattle.forensic_path.specs.declared.feature.Classed.{Classed}
 use Rattle.feature_file.specs.Files.{name_of}
 use Rattle.feature_file.specs.FeatureFile.{stands_in}
 use Rattle.triage_run.specs.declared.status.Status.{Status}
-use Rattle.triage_run.specs.declared.status.Status.TheVariants.{Done, Usage, ReadFault, PatternRefused, DiskFault, OutFault, NoMemory, NotYet}
-use Rattle.triage_run.specs.declared.status.Why.{Why}
-use Rattle.triage_run.specs.declared.status.Why.TheVariants.{NoCommand, UnknownCommand, UnknownOption, TooMany, ValueMissing, BadText, PlaceMissing}
+use Rattle.triage_run.specs.declared.status.Status.TheVariants.{Done, Usage, ListTooLong, ReadFault, PatternRefused, DiskFault, OutFault, NoMemory, NotYet}
+use Rattle.triage_run.specs.declared.status.List.{List as ListName}
+use Rattle.triage_run.specs.declared.status.List.TheVariants.{Stop, Alert}
 use Rattle.triage_run.specs.declared.status.ReadPlace.{ReadPlace}
-use Rattle.triage_run.specs.declared.status.ReadPlace.TheVariants.{Image, Page}
+use Rattle.triage_run.specs.declared.status.ReadPlace.TheVariants.{StopList, AlertList, Image, Page}
 use Rattle.triage_run.specs.declared.status.Unbuilt.{Unbuilt}
-use Rattle.triage_run.specs.declared.status.Unbuilt.TheVariants.{Parts, Size}
+use Rattle.triage_run.specs.declared.status.Unbuilt.TheVariants.{Generate, Parts, Log, Size}
 use Rattle.triage_run.specs.declared.summary.FileLines.{FileLines}
-use Rattle.triage_run.specs.declared.words.BadWord.{BadWord}
+use Rattle.scan_settings.specs.declared.fault.Why.{Why}
+use Rattle.scan_settings.specs.Faults.{why_text}
 use Rattle.triage_run.specs.Case.{Case, classed_of}
 
 -- ---- the line of a refusal
 
--- why a word is bad
-abbrev pub why_text : Why → List ℕ
-why_text NoCommand = codes "no command"
-why_text UnknownCommand = codes "unknown command"
-why_text UnknownOption = codes "unknown option"
-why_text TooMany = codes "too many"
-why_text ValueMissing = codes "value missing"
-why_text BadText = codes "bad text"
-why_text PlaceMissing = codes "place missing"
-
 -- which word is bad, and why
-abbrev pub word_text : BadWord → List ℕ
-word_text bad = codes "word " ++ decimal bad.word ++ codes ": " ++ why_text bad.why
+abbrev pub word_text : ℕ → Why → List ℕ
+word_text word why = codes "word " ++ decimal word ++ codes ": " ++ why_text why
+
+-- which list it is
+abbrev pub list_text : ListName → List ℕ
+list_text Stop = codes "stop"
+list_text Alert = codes "alert"
 
 -- what a source failed to give
 abbrev pub place_text : ReadPlace → List ℕ
+place_text StopList = codes "stop list"
+place_text AlertList = codes "alert list"
 place_text Image = codes "image"
 place_text (Page page) = codes "page " ++ decimal page
 
 -- which form of input isn't built
 abbrev pub unbuilt_text : Unbuilt → List ℕ
+unbuilt_text Generate = codes "generate"
 unbuilt_text Parts = codes "parts"
+unbuilt_text Log = codes "log"
 unbuilt_text (Size bytes) = codes "size " ++ decimal bytes
 
 -- the line of a refusal; a text that could not be put has none
 abbrev pub line_of : Status → List ℕ
-line_of (Usage word why) = codes "usage: " ++ word_text (record { word = word; why = why }) ++ codes "\n"
+line_of (Usage word why) = codes "usage: " ++ word_text word why ++ codes "\n"
+line_of (ListTooLong list size) = codes "list too long: " ++ list_text list ++ codes " " ++ decimal size ++ codes "\n"
 line_of (ReadFault place) = codes "read fault: " ++ place_text place ++ codes "\n"
 line_of (PatternRefused index) = codes "pattern refused: " ++ decimal index ++ codes "\n"
 line_of DiskFault = codes "disk fault\n"
@@ -96,8 +97,11 @@ text_of found Done = found
 text_of found OutFault = found
 text_of found status = Some (line_of status)
 
--- Done puts its text. Any other status puts a front of it, and where the count of the sink did not rise all of
--- it, or nothing for want of memory.
+-- a front of the text, and where the count of the sink did not rise all of it, or nothing for want of memory
+abbrev pub IsPutInPart : (List ℕ → Type 0) → Type 0 → List ℕ → Type 0
+IsPutInPart takes rose text = ((count : ℕ) × takes (take count text)) × (¬ rose → takes text ⊎ takes [])
+
+-- Done puts its text, and any other status a part of it
 abbrev pub IsPut : (List ℕ → Type 0) → Type 0 → Status → List ℕ → Type 0
 IsPut takes rose Done text = takes text
-IsPut takes rose _ text = ((count : ℕ) × takes (take count text)) × (¬ rose → takes text ⊎ takes [])
+IsPut takes rose _ text = IsPutInPart takes rose text

@@ -1,54 +1,58 @@
 // The report of an image in memory: what is found in it, its classes, and its files.
-ghost use Rattle.std.specs.Prelude.{◌≡◌, ◌<◌, ◌≤◌, ◌^◌, ◌++◌, [], length, map, true, Some, IfOk, OnOk};
-ghost use Rattle.scan_set.specs.Here.{features_of};
-ghost use Rattle.stop_lists.specs.Lists.{classed_by};
+ghost use Rattle.std.specs.Prelude.{◌≡◌, ◌<◌, ◌≤◌, ◌^◌, ◌++◌, length, map, true, IfOk, OnOk, IsTrue};
+ghost use Rattle.scan_set.specs.Lawful.{IsLawful};
 ghost use Rattle.report_publish.specs.Faults.{HasPublishCause};
-ghost use Rattle.report_publish.specs.declared.publish.TheConstants.{FILES_BUILT};
-ghost use Rattle.triage_run.specs.Case.{case_by, LeavesReport};
+ghost use Rattle.report_publish.specs.Publish.{files_for, AreWritten};
 ghost use Rattle.triage_run.specs.Kept.{KeepsOthers};
-ghost use Rattle.triage_run.specs.Plans.{IsPlan};
+ghost use Rattle.triage_run.specs.Lists.{classed_under};
+ghost use Rattle.triage_run.specs.Part.{items_under, counts_in};
+ghost use Rattle.triage_run.specs.Words.{IsScan};
 ghost use Rattle.scan_find.specs.declared.TheConstants.{PATTERNS_MOST};
-ghost use Rattle.triage_run.specs.Text.{counts_of};
 
 use crate::summary::Summary;
+use crate::words::Scan;
 use byte_kit::NoMemory;
-use forensic_path::{Class, Classed, Feature};
+use forensic_path::{Classed, Feature};
 use host_disk::Disk;
 use pattern_kit::Matcher;
 use report_publish::{PublishFault, publish_items};
 use sbuf_nest::Sbuf;
 use scan_set::{ScanPlan, Tools, scan_owned};
 use std::alloc::Global;
+use stop_lists::Lists;
 
 // How many bytes of the image are scanned before their features are classed.
 const PIECE_BYTES: usize = 65536;
 
-/// Writes the report of an image to a mounted disk, by a plan and the matchers of its patterns, and gives
-/// what was found.
+/// Writes the report of an image to a mounted disk, by the lists and the matchers of the patterns of a scan, and
+/// gives what was found.
 pub fn write_report<D: Disk, M: Matcher>(
     alloc: Global,
-    image: &[u8],
-    plan: &ScanPlan,
+    scan: &Scan,
+    lists: &Lists,
     matchers: Vec<M>,
+    image: &[u8],
     disk: &mut D,
 ) -> Result<Summary, PublishFault>
-    requires plan { IsPlan plan.now }
+    requires scan { IsScan scan.now }
     requires few { length matchers.items ≤ PATTERNS_MOST }
     requires open { D.mounted disk.old ≡ true }
     requires small { length image.now < 2 ^ 63 }
     ensures same { D.nature disk.new ≡ D.nature disk.old }
     ensures stays { D.mounted disk.new ≡ true }
-    ensures report { OnOk result (LeavesReport M.matches (case_by plan.now (map M.reading matchers.items)) (Some image.now) (D.nature disk.old).tells (D.files disk.new)) }
-    ensures found { IfOk result (λ found. found ≡ counts_of M.matches FILES_BUILT (case_by plan.now (map M.reading matchers.items) image.now)) }
-    ensures others { KeepsOthers (D.nature disk.old) (D.files disk.old) (D.files disk.new) }
+    ensures written { OnOk result (IsTrue (D.nature disk.old).tells → AreWritten scan.now.plan.scanners
+        (items_under lists.now (map M.matches (map M.reading matchers.items)) scan.now.plan image.now) (D.files disk.new)) }
+    ensures found { IfOk result (λ found. found ≡ counts_in scan.now.page (length image.now)
+        (items_under lists.now (map M.matches (map M.reading matchers.items)) scan.now.plan image.now)) }
+    ensures others { KeepsOthers (files_for scan.now.plan.scanners) (D.nature disk.old) (D.files disk.old) (D.files disk.new) }
     ensures cause { HasPublishCause (D.faults disk.old) (D.faults disk.new) result }
 {
-    let Ok(items) = items_in(alloc, image, plan, matchers) else {
+    let Ok(items) = items_in(alloc, image, &scan.plan, lists, matchers) else {
         return Err(PublishFault::NoMemory);
     };
     let items = items.as_slice();
-    publish_items(alloc, disk, items, plan.scanners)?;
-    let found = Summary::count(alloc, image.len() as u64, items)?;
+    publish_items(alloc, disk, items, scan.plan.scanners)?;
+    let found = Summary::count(alloc, scan.page, image.len() as u64, items)?;
     Ok(found)
 }
 
@@ -59,12 +63,13 @@ fn items_in<M: Matcher>(
     alloc: Global,
     image: &[u8],
     plan: &ScanPlan,
+    lists: &Lists,
     matchers: Vec<M>,
 ) -> Result<Vec<Classed>, NoMemory>
-    requires plan { IsPlan plan.now }
+    requires plan { IsLawful plan.now }
     requires few { length matchers.items ≤ PATTERNS_MOST }
     requires small { length image.now < 2 ^ 63 }
-    ensures { IfOk result (λ items. items.items ≡ classed_by [] [] (features_of (map M.matches (map M.reading matchers.items)) plan.now image.now)) }
+    ensures { IfOk result (λ items. items.items ≡ items_under lists.now (map M.matches (map M.reading matchers.items)) plan.now image.now) }
 {
     let mut tools = Tools::make(alloc, plan, matchers)?;
     let mut items = Vec::new(alloc);
@@ -72,19 +77,23 @@ fn items_in<M: Matcher>(
     while next < image.len() {
         let to = (next + PIECE_BYTES).min(image.len());
         let piece = Sbuf::of(image, next, to, 0);
-        class_into(scan_owned(&piece, plan, &mut tools)?, &mut items)?;
+        class_into(scan_owned(&piece, plan, &mut tools)?, lists, &mut items)?;
         next = to;
     }
     Ok(items)
 }
 
-// Appends each feature with its class, which is plain: there are no lists.
-fn class_into(features: Vec<Feature>, items: &mut Vec<Classed>) -> Result<(), NoMemory>
-    ensures { OnOk result (items.new.items ≡ items.old.items ++ map (λ item. record { class = Class.Plain; item = item }) features.items) }
+// Appends each feature with its class.
+fn class_into(
+    features: Vec<Feature>,
+    lists: &Lists,
+    items: &mut Vec<Classed>,
+) -> Result<(), NoMemory>
+    ensures { OnOk result (items.new.items ≡ items.old.items ++ map (classed_under lists.now) features.items) }
 {
-    let class = Class::Plain;
     items.reserve(features.len())?;
     for item in features {
+        let class = lists.class_of(item.feature.as_slice(), item.context.as_slice());
         items.push(Classed { class, item })?;
     }
     Ok(())

@@ -2,6 +2,8 @@
 ghost use Rattle.std.specs.Prelude.{◌≡◌};
 ghost use Rattle.triage_run.specs.Status.{number_of};
 
+use scan_settings::Why;
+
 /// How a call ends. Each status but `Done` is a refusal, and comes only where its cause is.
 #[derive(Clone, Copy, Debug, PartialEq, Eq)]
 pub enum Status {
@@ -9,7 +11,9 @@ pub enum Status {
     Done,
     /// The word of this number, counted from 0, is the first bad one.
     Usage { word: u32, why: Why },
-    /// The source failed.
+    /// This list has so many bytes, which are more than are read.
+    ListTooLong { list: List, size: u64 },
+    /// A source failed.
     ReadFault { place: ReadPlace },
     /// The kit did not read the text of the pattern of this number, counted from 0.
     PatternRefused { index: u32 },
@@ -23,28 +27,22 @@ pub enum Status {
     NotYet { what: Unbuilt },
 }
 
-/// Why a word is bad.
+/// A list that classes what is found.
 #[derive(Clone, Copy, Debug, PartialEq, Eq)]
-pub enum Why {
-    /// There is no word.
-    NoCommand,
-    /// Word 0 is no command.
-    UnknownCommand,
-    /// A word in an option's place is no option.
-    UnknownOption,
-    /// There are more place words than a scan takes, or an option is given once too often.
-    TooMany,
-    /// The value of an option is missing.
-    ValueMissing,
-    /// The value of an option is no text of 1 to 256 bytes.
-    BadText,
-    /// There are fewer than two place words.
-    PlaceMissing,
+pub enum List {
+    /// What it names is stopped.
+    Stop,
+    /// What it names is an alert.
+    Alert,
 }
 
 /// What a source failed to give.
 #[derive(Clone, Copy, Debug, PartialEq, Eq)]
 pub enum ReadPlace {
+    /// The stop list could not be attached or read.
+    StopList,
+    /// The alert list could not be attached or read.
+    AlertList,
     /// A part of the image could not be attached.
     Image,
     /// The bytes of this page could not be read.
@@ -54,8 +52,12 @@ pub enum ReadPlace {
 /// A form of input that isn't built yet.
 #[derive(Clone, Copy, Debug, PartialEq, Eq)]
 pub enum Unbuilt {
+    /// The command `generate`.
+    Generate,
     /// An image in more than one part.
     Parts,
+    /// The log of a scan.
+    Log,
     /// An image of this size in bytes.
     Size(u64),
 }
@@ -70,6 +72,7 @@ impl Status {
         match self {
             Status::Done => 0,
             Status::Usage { .. } => 2,
+            Status::ListTooLong { .. } => 3,
             Status::ReadFault { .. } => 4,
             Status::PatternRefused { .. } => 5,
             Status::DiskFault => 8,

@@ -1,11 +1,10 @@
 // What a scan has found, as its text says it.
-ghost use Rattle.std.specs.Prelude.{◌≡◌, length, filter, map, IfOk};
+ghost use Rattle.std.specs.Prelude.{◌≡◌, ◌≤◌, length, filter, map, IfOk};
 ghost use Rattle.std.specs.Int.{div_ceil};
 ghost use Rattle.feature_file.specs.FeatureFile.{stands_in};
 ghost use Rattle.report_publish.specs.declared.publish.TheConstants.{FILES_BUILT};
 ghost use Rattle.triage_run.specs.Text.{Counts, file_lines};
 
-use crate::plan::PAGE_BYTES;
 use byte_kit::NoMemory;
 use feature_file::stands_in;
 use forensic_path::Classed;
@@ -37,9 +36,16 @@ impl Model for Summary {
 }
 
 impl Summary {
-    /// Counts the features of an image of so many bytes. Its one refusal is want of memory.
-    pub fn count(alloc: Global, bytes: u64, items: &[Classed]) -> Result<Summary, NoMemory>
-        ensures pages { IfOk result (λ found. found.pages ≡ div_ceil bytes PAGE_BYTES) }
+    /// Counts the features of an image of so many bytes, whose pages have so many. Its one refusal is want of
+    /// memory.
+    pub fn count(
+        alloc: Global,
+        page: u64,
+        bytes: u64,
+        items: &[Classed],
+    ) -> Result<Summary, NoMemory>
+        requires { 1 ≤ page }
+        ensures pages { IfOk result (λ found. found.pages ≡ div_ceil bytes page) }
         ensures features { IfOk result (λ found. found.features ≡ length items.now) }
         ensures files { IfOk result (λ found. found.files ≡ map (file_lines items.now) FILES_BUILT) }
     {
@@ -49,7 +55,7 @@ impl Summary {
             files.push(FileLines { file, lines })?;
         }
         Ok(Summary {
-            pages: bytes.div_ceil(PAGE_BYTES),
+            pages: bytes.div_ceil(page),
             features: items.len() as u64,
             files,
         })

@@ -5,46 +5,48 @@ ghost use Rattle.byte_kit.specs.Counts.{Rose};
 ghost use Rattle.host_source.specs.Sink.{Takes};
 ghost use Rattle.triage_run.specs.Kept.{KeepsSink};
 ghost use Rattle.triage_run.specs.Status.{IfDone, IsRefusal, EndsAs, scanned_as};
-ghost use Rattle.triage_run.specs.Text.{counts_text, counts_told, file_line, line_of, text_of, IsPut};
+ghost use Rattle.triage_run.specs.Text.{counts_text, counts_told, file_line, line_of, text_of, IsPut, IsPutInPart};
 ghost use Rattle.triage_run.specs.declared.status.Status.{Status};
 
-use crate::status::{ReadPlace, Status, Unbuilt, Why};
+use crate::status::{List, ReadPlace, Status, Unbuilt};
 use crate::summary::{FileLines, Summary};
-use crate::words::BadWord;
 use byte_kit::NoMemory;
 use feature_file::file_name;
 use host_source::{Sink, SinkFault};
+use scan_settings::Why;
 use std::alloc::{AllocError, Global};
 use std::fmt;
 use std::fmt::Write;
 
-impl fmt::Display for Why {
-    ghost use Rattle.std.specs.Prelude.{Some};
-    ghost use Rattle.triage_run.specs.Text.{why_text};
-
-    ghost output = { λ why. Some (why_text why) };
-
-    fn fmt<W: fmt::Write>(&self, f: &mut fmt::Formatter<W>) -> fmt::Result {
-        f.write_str(match self {
-            Why::NoCommand => "no command",
-            Why::UnknownCommand => "unknown command",
-            Why::UnknownOption => "unknown option",
-            Why::TooMany => "too many",
-            Why::ValueMissing => "value missing",
-            Why::BadText => "bad text",
-            Why::PlaceMissing => "place missing",
-        })
-    }
+// A bad word, counted from 0.
+#[derive(Clone, Copy)]
+struct BadWord {
+    word: u32,
+    why: Why,
 }
 
 impl fmt::Display for BadWord {
     ghost use Rattle.std.specs.Prelude.{Some};
     ghost use Rattle.triage_run.specs.Text.{word_text};
 
-    ghost output = { λ bad. Some (word_text bad) };
+    ghost output = { λ bad. Some (word_text bad.word bad.why) };
 
     fn fmt<W: fmt::Write>(&self, f: &mut fmt::Formatter<W>) -> fmt::Result {
-        write!(f, "word {}: {}", self.word, self.why)
+        write!(f, "word {}: {}", self.word, self.why.text())
+    }
+}
+
+impl fmt::Display for List {
+    ghost use Rattle.std.specs.Prelude.{Some};
+    ghost use Rattle.triage_run.specs.Text.{list_text};
+
+    ghost output = { λ list. Some (list_text list) };
+
+    fn fmt<W: fmt::Write>(&self, f: &mut fmt::Formatter<W>) -> fmt::Result {
+        f.write_str(match self {
+            List::Stop => "stop",
+            List::Alert => "alert",
+        })
     }
 }
 
@@ -56,6 +58,8 @@ impl fmt::Display for ReadPlace {
 
     fn fmt<W: fmt::Write>(&self, f: &mut fmt::Formatter<W>) -> fmt::Result {
         match self {
+            ReadPlace::StopList => f.write_str("stop list"),
+            ReadPlace::AlertList => f.write_str("alert list"),
             ReadPlace::Image => f.write_str("image"),
             ReadPlace::Page(page) => write!(f, "page {page}"),
         }
@@ -70,7 +74,9 @@ impl fmt::Display for Unbuilt {
 
     fn fmt<W: fmt::Write>(&self, f: &mut fmt::Formatter<W>) -> fmt::Result {
         match self {
+            Unbuilt::Generate => f.write_str("generate"),
             Unbuilt::Parts => f.write_str("parts"),
+            Unbuilt::Log => f.write_str("log"),
             Unbuilt::Size(bytes) => write!(f, "size {bytes}"),
         }
     }
@@ -85,6 +91,9 @@ fn line_of(alloc: Global, refusal: Status) -> Result<String, AllocError>
         Status::Usage { word, why } => {
             let bad = BadWord { word, why };
             format!(in alloc; "usage: {bad}\n")
+        }
+        Status::ListTooLong { list, size } => {
+            format!(in alloc; "list too long: {list} {size}\n")
         }
         Status::ReadFault { place } => format!(in alloc; "read fault: {place}\n"),
         Status::PatternRefused { index } => format!(in alloc; "pattern refused: {index}\n"),
@@ -156,9 +165,8 @@ fn print_found<O: Sink>(alloc: Global, found: &Summary, sink: &mut O) -> Status
 
 // Puts the line of a refusal, as far as there is room for it and the sink takes it.
 fn print_line<O: Sink>(alloc: Global, refusal: Status, sink: &mut O)
-    requires { IsRefusal refusal }
     ensures sink { KeepsSink O.taken O.faults sink.old sink.new }
-    ensures printed { IsPut (λ bytes. Takes (O.taken sink.old) (O.taken sink.new) bytes) (Rose (O.faults sink.old) (O.faults sink.new)) refusal (line_of refusal) }
+    ensures printed { IsPutInPart (λ bytes. Takes (O.taken sink.old) (O.taken sink.new) bytes) (Rose (O.faults sink.old) (O.faults sink.new)) (line_of refusal) }
 {
     if let Ok(line) = line_of(alloc, refusal) {
         let _ = sink.put(line.as_bytes());

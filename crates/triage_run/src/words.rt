@@ -1,103 +1,108 @@
-// The words of the command line.
-ghost use Rattle.std.specs.Prelude.{◌≡◌, ◌<◌, ◌≤◌, ◌^◌, ◌+◌, ◌-◌, [], ◌∷◌, false, true, length, take, slice_index_or, IfNone, IfSome, IfOk, IfErr, OnOk, OnErr};
-ghost use Rattle.std.specs.String.{string_bytes};
-ghost use Rattle.triage_run.specs.Plans.{IsPlan};
-ghost use Rattle.triage_run.specs.Words.{texts, words_of, places_of, begins_with_option, IsBadWord};
+// The scan that the words of the command line ask for.
+ghost use Rattle.std.specs.Prelude.{◌≡◌, ◌<◌, ◌^◌, None, Some, length, IfOk, IfErr, OnOk};
+ghost use Rattle.scan_settings.specs.Lawful.{IsLawful as IsLawfulCommand};
+ghost use Rattle.scan_settings.specs.Settings.{texts};
+ghost use Rattle.scan_settings.specs.Words.{command_of};
+ghost use Rattle.triage_run.specs.Words.{plan_of, scan_in, scan_of, unbuilt_in, unbuilt_of, IsScan, IsWordsEnd};
 
-use crate::options::read_option;
-use crate::plan::plan_built;
-use crate::status::{Status, Why};
+use crate::status::{Status, Unbuilt};
+use byte_kit::{Name, Names};
 use scan_set::ScanPlan;
+use scan_settings::{Command, Plan, Settings, WordsFault, read_words};
 use std::alloc::Global;
 
-/// The most place words of a scan: 64 parts, and the folder of the report.
-pub const PLACES_MOST: usize = 65;
-
-/// A scan: what it looks for, the parts of the image in order, and the folder of the report.
+/// The names of the stop list and of the alert list, where they are given.
 #[derive(Drop)]
-pub struct Scan<'a> {
+pub struct ListNames {
+    pub stop: Option<Name>,
+    pub alert: Option<Name>,
+}
+
+/// What a scan reads, looks for and writes.
+#[derive(Drop)]
+pub struct Scan {
+    /// How many bytes a page has.
+    pub page: u64,
+    /// What is looked for, and how deep.
     pub plan: ScanPlan,
-    pub parts: &'a [String],
-    pub out: &'a String,
+    /// The lists that class what is found.
+    pub lists: ListNames,
+    /// The parts of the image, in order.
+    pub parts: Names,
+    /// The folder of the report.
+    pub out: Name,
 }
 
-/// A bad word, counted from 0.
-#[derive(Clone, Copy, Debug, PartialEq, Eq)]
-pub struct BadWord {
-    pub word: u32,
-    pub why: Why,
-}
-
-/// Judges the words from left to right. Refused, it names the first bad word, or wants memory; what is
-/// missing at the end is named with the number of words.
-pub fn read_words(alloc: Global, words: &[String]) -> Result<Scan<'_>, Status>
+/// The scan that the words ask for. Refused, it names the first bad word, or the first form of the command that
+/// isn't built, or wants memory.
+pub fn scan_given(alloc: Global, words: &[String]) -> Result<Scan, Status>
     requires { length words.now < 2 ^ 32 }
-    ensures scan { IfOk result (λ scan. words_of (texts words.now) ≡ Ok (record { plan = scan.plan; parts = texts scan.parts.now; out = string_bytes scan.out.now })) }
-    ensures some { IfOk result (λ scan. 1 ≤ length scan.parts.now) }
-    ensures plan { IfOk result (λ scan. IsPlan scan.plan) }
-    ensures bad { IfErr result (IsBadWord (words_of (texts words.now))) }
+    ensures scan { IfOk result (λ scan. scan_of (command_of (texts words.now)) ≡ Some scan) }
+    ensures lawful { IfOk result IsScan }
+    ensures built { OnOk result (unbuilt_of (command_of (texts words.now)) ≡ None) }
+    ensures bad { IfErr result (IsWordsEnd (command_of (texts words.now))) }
 {
-    let [command, rest @ ..] = words else {
-        return Err(Status::Usage {
-            word: 0,
-            why: Why::NoCommand,
-        });
+    let command = match read_words(alloc, words) {
+        Ok(command) => command,
+        Err(WordsFault::Usage { word, why }) => return Err(Status::Usage { word, why }),
+        Err(WordsFault::NoMemory) => return Err(Status::NoMemory),
     };
-    if command.as_str() != "scan" {
-        return Err(Status::Usage {
-            word: 0,
-            why: Why::UnknownCommand,
-        });
-    }
-    let mut plan = plan_built(alloc);
-    let mut number = 1;
-    let mut rest = rest;
-    while let Some((word, behind)) = split_option(rest) {
-        if let Err(refusal) = read_option(alloc, number, word.as_str(), behind, &mut plan) {
-            return Err(refusal);
-        }
-        let (_, left) = behind.split_at(1);
-        rest = left;
-        number += 2;
-    }
-    read_places(number, plan, rest)
-}
-
-// The first word and those behind it, where the first one begins with a dash.
-fn split_option(words: &[String]) -> Option<(&String, &[String])>
-    ensures none { IfNone result (begins_with_option (texts words.now) ≡ false) }
-    ensures some { IfSome result (λ split. begins_with_option (texts words.now) ≡ true) }
-    ensures split { IfSome result (λ split. words.now ≡ split.0.now ∷ split.1.now) }
-{
-    let [word, behind @ ..] = words else {
-        return None;
-    };
-    match word.as_bytes() {
-        [b'-', ..] => Some((word, behind)),
-        _ => None,
+    match scan_in(command) {
+        Ok(scan) => Ok(scan),
+        Err(what) => Err(Status::NotYet { what }),
     }
 }
 
-// The last place word is the folder, and those ahead of it are the parts. The first one has this number.
-fn read_places<'a>(number: u32, plan: ScanPlan, places: &'a [String]) -> Result<Scan<'a>, Status>
-    requires plan { IsPlan plan }
-    requires number { number + length places.now < 2 ^ 32 }
-    ensures scan { IfOk result (λ scan. places_of number plan (texts places.now) ≡ Ok (record { plan = scan.plan; parts = texts scan.parts.now; out = string_bytes scan.out.now })) }
-    ensures some { IfOk result (λ scan. 1 ≤ length scan.parts.now) }
-    ensures plan { IfOk result (λ scan. IsPlan scan.plan) }
-    ensures bad { IfErr result (IsBadWord (places_of number plan (texts places.now))) }
+// What a command scans, or the first form of it that isn't built.
+fn scan_in(command: Command) -> Result<Scan, Unbuilt>
+    requires { IsLawfulCommand command }
+    ensures scan { IfOk result (λ scan. scan_in command ≡ Some scan) }
+    ensures lawful { IfOk result IsScan }
+    ensures built { OnOk result (unbuilt_in command ≡ None) }
+    ensures unbuilt { IfErr result (λ what. unbuilt_in command ≡ Some what) }
 {
-    if places.len() > PLACES_MOST {
-        return Err(Status::Usage {
-            word: number + PLACES_MOST as u32,
-            why: Why::TooMany,
-        });
+    let Command::Scan {
+        settings,
+        parts,
+        place,
+    } = command
+    else {
+        return Err(Unbuilt::Generate);
+    };
+    if parts.items().len() > 1 {
+        return Err(Unbuilt::Parts);
     }
-    match places {
-        [parts @ .., out] if !parts.is_empty() => Ok(Scan { plan, parts, out }),
-        _ => Err(Status::Usage {
-            word: number + places.len() as u32,
-            why: Why::PlaceMissing,
-        }),
+    if settings.with_log {
+        return Err(Unbuilt::Log);
+    }
+    let Settings {
+        page,
+        plan,
+        stop,
+        alert,
+        ..
+    } = settings;
+    Ok(Scan {
+        page,
+        plan: plan_of(plan),
+        lists: ListNames { stop, alert },
+        parts,
+        out: place,
+    })
+}
+
+// The plan of a scan by what options set of it.
+fn plan_of(plan: Plan) -> ScanPlan
+    ensures { result ≡ plan_of plan }
+{
+    ScanPlan {
+        scanners: plan.scanners,
+        depth: plan.depth,
+        mask: plan.mask,
+        word_min: plan.word_min,
+        word_max: plan.word_max,
+        context: plan.context,
+        keywords: plan.keywords,
+        patterns: plan.patterns,
     }
 }

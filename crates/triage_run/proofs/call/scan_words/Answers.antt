@@ -1,59 +1,70 @@
-use Rattle.std.proofs.Common.{◌≡◌, ◌∙◌, ◌<◌, arith, length, map, [], ap, sym, subst, Result}
-use Rattle.std.specs.Prelude.{IfOk}
-use Rattle.std.specs.List.{AllPass}
-use Rattle.std.specs.String.{string_bytes}
+use Rattle.std.proofs.Common.{◌≡◌, ◌∙◌, [], ◌∷◌, arith, length, map, sym, subst, ap, rules, List, ℕ, Err, refl, inl, slice_index_or}
 use Rattle.std.proofs.lemmas.List.{length-map}
-use Rattle.triage_run.specs.declared.words.BadWord.{BadWord}
-use Rattle.triage_run.specs.Call.{call_over, and_readings}
-use Rattle.triage_run.specs.Words.{ScanWords, texts, command_of, one_part}
-use Rattle.triage_run.proofs.OnePart.{command_of_one, part_asked}
-use Rattle.triage_run.proofs.Refusals.{words_refused, parts_refused, build_refused, scanned_behind}
+use Rattle.scan_settings.specs.Settings.{texts}
+use Rattle.scan_settings.specs.Words.{command_of}
+use Rattle.triage_run.specs.Call.{call_over, and_lists, and_readings, and_kit, Scanned}
+use Rattle.triage_run.specs.declared.status.List.{List as ListName}
+use Rattle.triage_run.specs.Lists.{lists_of, AreListed, AreEntries, ListFits}
+use Rattle.host_source.specs.Source.{told}
+use Rattle.triage_run.specs.Case.{joined}
+use Rattle.triage_run.specs.Patterns.{AreRead}
+use Rattle.triage_run.specs.Sources.{image_named}
+use Rattle.triage_run.specs.Words.{scan_of}
+use Rattle.triage_run.proofs.Ends.{words_refused, lists_refused, build_refused, part_scanned, has_report, has_found, joined_one, only_one, command_is, few_parts, on_ok, part_end_among}
+use Rattle.triage_run.proofs.Readings.{read_length}
 use Rattle.triage_run.proofs.call.scan_words.Goals as goal
 
-pub returns-in-Err-clause-scanned : goal.returns-in-Err-clause-scanned
-returns-in-Err-clause-scanned g c = ([], words_refused _ c.in-Err.refusal c.in-Err.ensures.bad)
+pub returns-in_err-scan-clause-scanned : goal.returns-in_err-scan-clause-scanned
+returns-in_err-scan-clause-scanned g c =
+    let is : c.from_residual.result ≡ Err c.in_err-scan.field-0.0 = search rules in
+    ([], subst (Scanned _) (sym is) (words_refused _ c.in_err-scan.field-0.0 c.in_err-scan.ensures.bad))
 
-pub returns-then-scan-gt1-clause-scanned : goal.returns-then-scan-gt1-clause-scanned
-returns-then-scan-gt1-clause-scanned g c =
-    let scan = c.in-Ok.scan in
-    let named : ScanWords = record { plan = scan.plan; parts = texts scan.parts.now; out = string_bytes scan.out.now } in
-    let same = length-map scan.parts.now string_bytes in
-    let many : 1 < length named.parts = omega (arith, same) in
-    ([], parts_refused _ named c.in-Ok.ensures.scan many)
+pub returns-in_err-entries-clause-scanned : goal.returns-in_err-entries-clause-scanned
+returns-in_err-entries-clause-scanned g c =
+    let is : c.from_residual-in_err-entries.result ≡ Err c.in_err-entries.field-0.0 = search rules in
+    let command = command_is (command_of (texts c.args.words.now)) c.in_ok-scan.scan c.in_ok-scan.ensures.scan c.in_ok-scan.ensures.built in
+    let names : lists_of (scan_of (command_of (texts c.args.words.now))) ≡ c.in_ok-scan.scan.lists = ap lists_of c.in_ok-scan.ensures.scan in
+    ([], subst (Scanned _) (sym is) (lists_refused _ command.0 command.1 command.2 c.in_err-entries.field-0.0 (rw names c.in_err-entries.ensures.cause)))
 
-pub returns-in-Err-build_matchers-clause-scanned : goal.returns-in-Err-build_matchers-clause-scanned
-returns-in-Err-build_matchers-clause-scanned g c =
-    let scan = c.in-Ok.scan in
-    let named : ScanWords = record { plan = scan.plan; parts = texts scan.parts.now; out = string_bytes scan.out.now } in
-    let same = length-map scan.parts.now string_bytes in
-    let one : length named.parts ≡ 1 = omega (arith, same, c.in-Ok.ensures.some) in
-    let call = and_readings g.K.M.Matcher.reads g.K.M.Matcher.matches []
-    (call_over g.S.Source.nature g.S.Source.slots g.S.Source.faults g.D.Disk.nature g.D.Disk.files g.D.Disk.faults (command_of c.args.words.now)
-    c.args.source.now c.args.source.now c.args.disk.now c.args.disk.now) in (
-      [],
-      build_refused call named (g.K.Kit.refusals c.args.kit.now) (g.K.Kit.refusals c.build_matchers.new.kit) c.in-Err-build_matchers.refusal
-          c.in-Ok.ensures.scan one c.in-Err-build_matchers.ensures.cause,
-    )
+pub returns-in_err-matchers-clause-scanned : goal.returns-in_err-matchers-clause-scanned
+returns-in_err-matchers-clause-scanned g c =
+    let is : c.from_residual-in_err-matchers.result ≡ Err c.in_err-matchers.field-0.0 = search rules in
+    let command = command_is (command_of (texts c.args.words.now)) c.in_ok-scan.scan c.in_ok-scan.ensures.scan c.in_ok-scan.ensures.built in
+    let names : lists_of (scan_of (command_of (texts c.args.words.now))) ≡ c.in_ok-scan.scan.lists = ap lists_of c.in_ok-scan.ensures.scan in
+    ([], subst (Scanned _) (sym is) (build_refused _ command.0 command.1 command.2 (rw names c.in_ok-entries.ensures.fits) (rw names c.in_ok-entries.ensures.listed)
+        (g.K.Kit.refusals c.args.kit.now) (g.K.Kit.refusals c.build_matchers.new.kit) c.in_err-matchers.field-0.0 c.in_err-matchers.ensures.cause refl refl))
 
-pub scan_part-requires-clause-part_asked : goal.scan_part-requires-clause-part_asked
-scan_part-requires-clause-part_asked g c =
-    let scan = c.in-Ok.scan in
-    let one : length scan.parts.now ≡ 1 = omega (arith, c.in-Ok.ensures.some) in
-    let command = command_of_one _ scan.plan scan.parts.now c.index-scan-0.result _ _ _ c.in-Ok.ensures.scan one c.index-scan-0.is (c.as_str-part.ensures.value ∙ ap string_bytes (sym c.index-scan-0.is)) c.as_str-out.ensures.value in
-    part_asked (g.S.Source.nature c.args.source.now).may_attach scan.plan c.as_str-part.result.now c.as_str-out.result.now
-    (subst (λ (command : Result ScanWords BadWord). IfOk command (λ scan. AllPass (g.S.Source.nature c.args.source.now).may_attach scan.parts)) command c.requires.ready.asked)
+pub scan_part-requires-clause-few : goal.scan_part-requires-clause-few
+scan_part-requires-clause-few g c =
+    let many = read_length g.K.M.Matcher.reads c.in_ok-scan.scan.plan.patterns (map g.K.M.Matcher.reading c.in_ok-matchers.matchers.items) (rw c.items.ensures at c.in_ok-matchers.ensures.read) in
+    let same = length-map c.in_ok-matchers.matchers.items g.K.M.Matcher.reading in
+    omega (arith, many, same, c.in_ok-scan.ensures.lawful.few_patterns)
 
 pub returns-clause-scanned : goal.returns-clause-scanned
 returns-clause-scanned g c =
-    let scan = c.in-Ok.scan in
-    let one : length scan.parts.now ≡ 1 = omega (arith, c.in-Ok.ensures.some) in
-    let command = command_of_one _ scan.plan scan.parts.now c.index-scan-0.result _ _ _ c.in-Ok.ensures.scan one c.index-scan-0.is (c.as_str-part.ensures.value ∙ ap string_bytes (sym c.index-scan-0.is)) c.as_str-out.ensures.value in
-    let readings = map g.K.M.Matcher.reading c.in-Ok-build_matchers.matchers.items in
-    let call = and_readings g.K.M.Matcher.reads g.K.M.Matcher.matches readings
+    let scan = c.in_ok-scan.scan in
+    let part = c.as_str-part.result.now in
+    let words = command_of (texts c.args.words.now) in
+    let command = command_is words scan c.in_ok-scan.ensures.scan c.in_ok-scan.ensures.built in
+    let names : lists_of (scan_of words) ≡ scan.lists = ap lists_of c.in_ok-scan.ensures.scan in
+    let readings = map g.K.M.Matcher.reading c.in_ok-matchers.matchers.items in
+    let call = and_kit (g.K.Kit.refusals c.args.kit.now) (g.K.Kit.refusals c.build_matchers.new.kit) (and_readings g.K.M.Matcher.reads g.K.M.Matcher.matches readings
+    (and_lists g.L.Source.nature g.L.Source.slots g.L.Source.faults c.args.lists.now c.read_lists.new.source
     (call_over g.S.Source.nature g.S.Source.slots g.S.Source.faults g.D.Disk.nature g.D.Disk.files g.D.Disk.faults
-    (one_part scan.plan c.as_str-part.result.now c.as_str-out.result.now) c.args.source.now c.scan_part.new.source c.args.disk.now c.scan_part.new.disk) in
+    words c.args.source.now c.scan_part.new.source c.args.disk.now c.scan_part.new.disk))) in
+    let bytes = told (g.S.Source.nature c.args.source.now) in
+    let first : part ≡ slice_index_or scan.parts 0 c.index-items-0.result = c.as_str-part.ensures ∙ (rw c.items-2.ensures at c.index-items-0.is) in
+    let count : length scan.parts ≡ 1 = omega (arith, c.in_ok-scan.ensures.lawful.parts, few_parts command.0 scan command.3 command.2) in
+    let one : scan.parts ≡ part ∷ [] = only_one scan.parts c.index-items-0.result count ∙ ap (λ (p : List ℕ). p ∷ []) (sym first) in
+    let image : call.image ≡ bytes part = ap (image_named bytes) c.in_ok-scan.ensures.scan ∙ ap (joined bytes) one ∙ joined_one bytes part in
+    let read : AreRead g.K.M.Matcher.reads scan.plan.patterns readings = rw c.items.ensures at c.in_ok-matchers.ensures.read in
+    let fits : (list : ListName) → ListFits call.lists call.list_slots list = rw names c.in_ok-entries.ensures.fits in
+    let listed : AreListed (lists_of (scan_of words)) call.list_slots = rw names c.in_ok-entries.ensures.listed in
+    let entries : AreEntries call.lists c.in_ok-entries.entries = rw names c.in_ok-entries.ensures.entries in
     let kept = c.scan_part.ensures in (
       readings,
-      rw command (scanned_behind call (g.K.Kit.refusals c.args.kit.now) (g.K.Kit.refusals c.build_matchers.new.kit) c.scan_part.result (λ none. none)
-          kept.cause kept.exact kept.readings kept.parts kept.found),
+      part_scanned call command.0 command.1 command.2 fits listed scan part (bytes part) command.3 one image read c.scan_part.result kept.attached kept.fits
+          (on_ok c.scan_part.result _ _ (has_report call command.0 command.1 command.2 fits listed scan part (bytes part) command.3 one image read c.in_ok-entries.entries entries) kept.report)
+          (has_found call command.0 command.1 command.2 fits listed scan part (bytes part) command.3 one image read c.in_ok-entries.entries entries c.scan_part.result kept.found)
+          (part_end_among scan.page (bytes part) (call.slots 0) _ call.source_rose call.disk_rose (λ rose. inl rose) c.scan_part.result kept.cause),
     )

@@ -1,11 +1,13 @@
 use Rattle.std.proofs.Common.{◌≡◌, refl, arith, List, ℕ}
 use Rattle.byte_kit.specs.Counts.{Rose}
 use Rattle.host_source.specs.Sink.{Takes}
-use Rattle.triage_run.specs.Call.{call_over, and_readings, and_kit}
+use Rattle.scan_settings.specs.Settings.{texts}
+use Rattle.scan_settings.specs.Words.{command_of}
+use Rattle.triage_run.specs.Call.{call_over, and_lists, and_readings, and_kit}
 use Rattle.triage_run.specs.Kept.{KeepsSource}
 use Rattle.triage_run.specs.Sources.{IsReady, OnlyParts}
-use Rattle.triage_run.specs.Words.{command_of}
-use Rattle.triage_run.proofs.AfterText.{cause_after, exact_after, readings_after, parts_after, text_after}
+use Rattle.triage_run.specs.Words.{scan_of}
+use Rattle.triage_run.proofs.AfterText.{cause_after, exact_after, lists_after, readings_after, parts_after, text_after}
 use Rattle.triage_run.proofs.FirstSource.{first_changed, done_changed, first_holds, answers_of_first}
 use Rattle.triage_run.proofs.call.triage.Goals as goal
 
@@ -16,8 +18,8 @@ returns-clause-sources g c =
 
 pub returns-clause-slots : goal.returns-clause-slots
 returns-clause-slots g c =
-    let command = command_of c.args.words.now in
-    first_holds (IsReady g.S.Source.nature g.S.Source.slots command) (λ s. OnlyParts command (g.S.Source.slots s)) (λ s ready slot behind. ready.detached slot)
+    let scan = scan_of (command_of (texts c.args.words.now)) in
+    first_holds (IsReady g.S.Source.nature g.S.Source.slots scan) (λ s. OnlyParts scan (g.S.Source.slots s)) (λ s ready slot behind. ready.detached slot)
     c.args.sources.items c.scan_words-scanned.new.source c.requires.ready c.scan_words-scanned.ensures.slots
 
 pub returns-clause-answers : goal.returns-clause-answers
@@ -28,15 +30,18 @@ returns-clause-answers g c =
     let readings = scan.ensures.scanned.0 in
     let scanned = scan.ensures.scanned.1 in
     let call = and_kit (g.K.Kit.refusals c.args.kit) (g.K.Kit.refusals scan.new.kit) (and_readings g.K.M.Matcher.reads g.K.M.Matcher.matches readings
-    (call_over g.S.Source.nature g.S.Source.slots g.S.Source.faults g.D.Disk.nature g.D.Disk.files g.D.Disk.faults (command_of c.args.words.now)
-    c.index_mut-first.result.now scan.new.source c.args.disk scan.new.disk)) in
+    (and_lists g.L.Source.nature g.L.Source.slots g.L.Source.faults c.args.lists scan.new.lists
+    (call_over g.S.Source.nature g.S.Source.slots g.S.Source.faults g.D.Disk.nature g.D.Disk.files g.D.Disk.faults (command_of (texts c.args.words.now))
+    c.index_mut-first.result.now scan.new.source c.args.disk scan.new.disk))) in
     let takes : List ℕ → Type 0 = λ bytes. Takes (g.O.Sink.taken c.args.out) (g.O.Sink.taken print.new.sink) bytes in (
       readings,
       answers_of_first g.S.Source.nature g.S.Source.slots g.S.Source.faults g.D.Disk.nature g.D.Disk.files g.D.Disk.faults
+          g.L.Source.nature g.L.Source.slots g.L.Source.faults c.args.lists scan.new.lists
           g.K.M.Matcher.reads g.K.M.Matcher.matches readings (g.K.Kit.refusals c.args.kit) (g.K.Kit.refusals scan.new.kit) g.O.Sink.taken g.O.Sink.faults _ _ _ _ _ _
           c.args.sources.items c.index_mut-first.result.now scan.new.source (omega (arith, c.requires.sources.0)) c.index_mut-first.ensures.value
           (cause_after call rose takes (λ none. absurd none) _ _ print.ensures.end scanned.cause)
           (exact_after call rose takes _ _ print.ensures.end scanned.exact)
+          (lists_after call rose takes _ _ print.ensures.end scanned.lists)
           (readings_after call rose takes _ _ print.ensures.end scanned.readings)
           (parts_after call rose takes _ _ print.ensures.end scanned.parts)
           (text_after call rose takes scan.result print.result scan.ensures.refused print.ensures.end scanned.found print.ensures.printed),
@@ -44,7 +49,7 @@ returns-clause-answers g c =
 
 pub returns-clause-sure : goal.returns-clause-sure
 returns-clause-sure g c =
-    done_changed _ _ _ (λ s t. g.S.Source.faults t ≡ g.S.Source.faults s) (λ x. refl)
+    done_changed _ _ _ _ (λ s t. g.S.Source.faults t ≡ g.S.Source.faults s) (λ x. refl)
     c.args.sources.items c.index_mut-first.result.now c.scan_words-scanned.new.source (omega (arith, c.requires.sources.0)) c.index_mut-first.ensures.value
     _ c.scan_words-scanned.result c.print_end-status.result c.scan_words-scanned.ensures.refused c.print_end-status.ensures.end
     c.scan_words-scanned.ensures.sure c.print_end-status.ensures.sure

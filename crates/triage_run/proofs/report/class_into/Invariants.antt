@@ -1,7 +1,7 @@
 use Rattle.std.proofs.Common.{◌≡◌, ◌++◌, map}
-use Rattle.forensic_path.specs.declared.feature.Class.TheVariants.{Plain}
+use Rattle.triage_run.specs.Lists.{classed_under}
 use Rattle.triage_run.proofs.report.class_into.Given as goal
 
 -- the features passed are appended
 abbrev pub invariant-loop-item : goal.invariant-loop-item
-invariant-loop-item l = l.items.items ≡ l.fn.items.items ++ map (λ item. record { class = Plain; item = item }) l.yielded
+invariant-loop-item l = l.items.items ≡ l.fn.items.items ++ map (classed_under l.lists) l.yielded

@@ -7,7 +7,7 @@ abbrev pub invariant-loop-next : goal.invariant-loop-next
 invariant-loop-next g l = record {
   high : l.next ≤ length l.image;
   same : map g.M.Matcher.reading l.tools ≡ map g.M.Matcher.reading l.fn.matchers.items;
-  classed : l.items.items ≡ items_of (map g.M.Matcher.matches (map g.M.Matcher.reading l.fn.matchers.items)) l.plan l.image 0 l.next;
+  classed : l.items.items ≡ items_of l.lists (map g.M.Matcher.matches (map g.M.Matcher.reading l.fn.matchers.items)) l.plan l.image 0 l.next;
 }
 
 abbrev pub decreases-loop-next : goal.decreases-loop-next

@@ -1,10 +1,8 @@
-use Rattle.std.proofs.Common.{arith, map}
-use Rattle.std.proofs.lemmas.List.{length-map}
-use Rattle.triage_run.proofs.Readings.{read_length}
+use Rattle.triage_run.proofs.WholeReport.{writes_part}
 use Rattle.triage_run.proofs.scan.scan_part.Goals as goal
 
-pub write_report-requires-clause-few : goal.write_report-requires-clause-few
-write_report-requires-clause-few g c =
-    let many = read_length g.M.Matcher.reads c.args.plan.now.patterns (map g.M.Matcher.reading c.args.matchers.items) c.requires.read in
-    let same = length-map c.args.matchers.items g.M.Matcher.reading in
-    omega (arith, many, same, c.requires.plan.few_patterns)
+pub returns-in-Ok-write_report-clause-report : goal.returns-in-Ok-write_report-clause-report
+returns-in-Ok-write_report-clause-report g c =
+    let read = rw (c.in-Ok.ensures.same, c.in-Ok.ensures.ok.attached) at c.in-Ok-read_whole.ensures.bytes in
+    let written = rw (c.as_slice.ensures.value, c.in-Ok-mount.ensures.same) at c.in-Ok-write_report.ensures.written in
+    writes_part _ _ _ c.in-Ok-read_whole.image.items _ _ read written

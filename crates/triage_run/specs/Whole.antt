@@ -1,8 +1,8 @@
--- Why the image was not read.
+-- Why bytes were not read.
 use Rattle.std.specs.Prelude.{ℕ, ◌<◌}
 use Rattle.byte_kit.specs.Counts.{Rose}
-use Rattle.triage_run.specs.declared.image.ReadEnd.{ReadEnd}
-use Rattle.triage_run.specs.declared.image.ReadEnd.TheVariants.{Fault, NoMemory}
+use Rattle.triage_run.specs.declared.whole.ReadEnd.{ReadEnd}
+use Rattle.triage_run.specs.declared.whole.ReadEnd.TheVariants.{Fault, NoMemory}
 
 -- a fault comes only where there are bytes to read and the count rose; want of memory is free
 abbrev pub IsReadCause : ℕ → ℕ → ℕ → ReadEnd → Type 0

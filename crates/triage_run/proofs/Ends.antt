@@ -1,0 +1,339 @@
+-- What the ends of a scan bear, ahead of its text: each refusal, and the scan of its part.
+use Rattle.std.proofs.Common.{◌≡◌, ◌∙◌, inl, inr, refl, sym, ap, subst, arith, ℕ, suc, ◌<◌, ◌≤◌, ◌*◌, ◌++◌, map, List, [], ◌∷◌, length, Option, Some, None, Result, Ok, Err, IfOk, IfErr, OnOk, Bool}
+use Rattle.std.specs.Prelude.{IfSome, IsSomeAnd, IsTrue, option_and_then, option_map, nat_lt, slice_index_or, true, false, if◌then◌else◌}
+use Rattle.byte_kit.specs.Counts.{Rose}
+use Rattle.std.proofs.lemmas.List.{append-nil}
+use Rattle.std.proofs.lemmas.Bool.Decides.{nat_tests}
+use Rattle.forensic_path.specs.declared.feature.Classed.{Classed}
+use Rattle.host_disk.specs.Files.{Files}
+use Rattle.host_source.specs.Source.{Slot}
+use Rattle.pattern_kit.specs.Building.{Refusals}
+use Rattle.scan_settings.specs.declared.fault.BadWord.{BadWord}
+use Rattle.scan_settings.specs.declared.words.Command.{Command}
+use Rattle.scan_settings.specs.declared.words.Command.TheVariants.{Scan as ScanCommand, Generate as GenerateCommand}
+use Rattle.triage_run.specs.declared.status.Status.{Status}
+use Rattle.triage_run.specs.declared.status.Status.TheVariants.{Done, Usage, ListTooLong, ReadFault, PatternRefused, DiskFault, OutFault, NoMemory, NotYet}
+use Rattle.triage_run.specs.declared.status.List.{List as ListName}
+use Rattle.triage_run.specs.declared.status.List.TheVariants.{Stop, Alert}
+use Rattle.triage_run.specs.declared.status.ReadPlace.TheVariants.{StopList, AlertList, Image, Page}
+use Rattle.triage_run.specs.declared.status.Unbuilt.{Unbuilt}
+use Rattle.triage_run.specs.declared.status.Unbuilt.TheVariants.{Generate, Parts, Log, Size}
+use Rattle.triage_run.specs.declared.words.Scan.{Scan}
+use Rattle.triage_run.specs.Call.{Call, IsBuilt, IsTooLong, IsTooLarge, HasPage, case_told, HasReport, IsCause, IsExact, HasLists, HasReadings, HasParts, HasFound, Scanned}
+use Rattle.triage_run.specs.Case.{joined, LeavesReport}
+use Rattle.triage_run.specs.Lists.{slot_of, lists_of, AreListed, AreEntries, ListFits, IsListsEnd}
+use Rattle.triage_run.specs.Part.{items_under, WritesPart, CountsPart, PartHasPage, IsPartEnd}
+use Rattle.triage_run.proofs.WholeReport.{report_told, counts_told}
+use Rattle.stop_lists.specs.Lists.{ListEntries}
+use Rattle.report_publish.specs.declared.publish.TheConstants.{FILES_BUILT}
+use Rattle.triage_run.specs.Sources.{AreAttached}
+use Rattle.triage_run.specs.Patterns.{AreRead, IsBuildEnd}
+use Rattle.triage_run.specs.Sizes.{IsSize, Fits, IsSizeAbove}
+use Rattle.triage_run.specs.Status.{step_of, IsOrEarlier, IsBehind, scanned_as}
+use Rattle.triage_run.specs.Steps.{any, words, form, alert_size, attach, size}
+use Rattle.triage_run.specs.Text.{Counts, counts_of}
+use Rattle.triage_run.specs.declared.scan.TheConstants.{IMAGE_MOST}
+use Rattle.triage_run.specs.Words.{scan_in, scan_of, unbuilt_in, unbuilt_of, IsWordsEnd}
+
+-- ---- steps
+
+form_step : (what : Unbuilt) → any < step_of (NotYet what)
+form_step Generate = omega arith
+form_step Parts = omega arith
+form_step Log = omega arith
+form_step (Size bytes) = omega arith
+
+list_step : (list : ListName) (bytes : ℕ) → form < step_of (ListTooLong list bytes)
+list_step Stop bytes = omega arith
+list_step Alert bytes = omega arith
+
+words_step : (what : Unbuilt) → words < step_of (NotYet what)
+words_step Generate = omega arith
+words_step Parts = omega arith
+words_step Log = omega arith
+words_step (Size bytes) = omega arith
+
+if_err_of : {T E : Type 0} (result : Result T E) (P : E → Type 0) → ((e : E) → P e) → IfErr result P
+if_err_of (Ok value) P holds = tt
+if_err_of (Err e) P holds = holds e
+
+if_some_of : {A : Type 0} (option : Option A) (P : A → Type 0) → ((x : A) → P x) → IfSome option P
+if_some_of None P holds = tt
+if_some_of (Some x) P holds = holds x
+
+-- what is attached has one size
+size_is_one : (told : Option (List ℕ)) (slot : Option Slot) (a b : ℕ) → IsSize told slot a → IsSize told slot b → a ≡ b
+size_is_one (Some bytes) slot a b is_a is_b = is_a ∙ sym is_b
+size_is_one None (Some s) a b is_a is_b = is_a ∙ sym is_b
+size_is_one None None a b is_a is_b = absurd is_a
+
+-- no command has a size
+no_size : (command : Result Command BadWord) (bytes : ℕ) → unbuilt_of command ≡ Some (Size bytes) → ⊥
+no_size (Ok command) bytes is = of_command command is
+  where
+    of_scan : (many log : Bool) → (if many then Some Parts else (if log then Some Log else None)) ≡ Some (Size bytes) → ⊥
+    of_scan true log is = cc
+    of_scan false true is = cc
+    of_scan false false is = cc
+    of_command : (command : Command) → unbuilt_in command ≡ Some (Size bytes) → ⊥
+    of_command (GenerateCommand settings seed size) is = cc
+    of_command (ScanCommand settings parts place) is = of_scan (nat_lt 1 (length parts)) settings.with_log is
+no_size (Err bad) bytes is = cc
+
+abbrev refused : Status → Result Counts Status
+refused refusal = Err refusal
+
+module _ {R : Type 0} (call : Call R) where
+  -- a refusal that comes no later than the alert list
+  early : (refusal : Status) → step_of refusal ≤ alert_size → IsCause call refusal → IsExact call refusal → Scanned call (refused refusal)
+  early refusal low cause exact = record {
+    cause = cause;
+    exact = exact;
+    lists = λ behind. absurd (omega (arith, low, behind));
+    readings = λ behind. absurd (omega (arith, low, behind));
+    parts = λ behind. absurd (omega (arith, low, behind));
+    found = tt;
+  }
+
+  -- ---- want of memory, and the words
+
+  -- want of memory bears everything
+  pub memory_bears : Scanned call (refused NoMemory)
+  memory_bears = early NoMemory (omega arith) tt (record {
+    usage = if_err_of call.command _ (λ bad. inr (omega arith));
+    form = if_some_of (unbuilt_of call.command) _ (λ what. inr (form_step what));
+    list = λ list bytes long. inr (omega (arith, list_step list bytes));
+    size = λ bytes large. inr (omega arith);
+  })
+
+  -- a form that isn't built is one of a command
+  no_bad_word : (command : Result Command BadWord) (what : Unbuilt) (P : BadWord → Type 0) → unbuilt_of command ≡ Some what → IfErr command P
+  no_bad_word (Ok command) what P is = tt
+  no_bad_word (Err bad) what P is = cc
+
+  form_refused : (what : Unbuilt) → unbuilt_of call.command ≡ Some what → step_of (NotYet what) ≡ form → IsCause call (NotYet what) →
+      Scanned call (refused (NotYet what))
+  form_refused what is step cause = early (NotYet what) (omega (arith, step)) cause (record {
+    usage = no_bad_word call.command what _ is;
+    form = subst (λ (form : Option Unbuilt). IfSome form (λ w. IsOrEarlier (NotYet w) (NotYet what))) (sym is) (inl refl);
+    list = λ list bytes long. inr (omega (arith, step, list_step list bytes));
+    size = λ bytes large. inr (omega (arith, step));
+  })
+
+  -- the first bad word was named, or the first form that isn't built
+  pub words_refused : (refusal : Status) → IsWordsEnd call.command refusal → Scanned call (refused refusal)
+  words_refused (Usage word why) bad = early (Usage word why) (omega arith) bad (record {
+    usage = subst (λ (command : Result Command BadWord). IfErr command (λ bad. IsOrEarlier (Usage bad.word bad.why) (Usage word why))) (sym bad) (inl refl);
+    form = if_some_of (unbuilt_of call.command) _ (λ what. inr (words_step what));
+    list = λ list bytes long. inr (omega (arith, list_step list bytes));
+    size = λ bytes large. inr (omega arith);
+  })
+  words_refused (NotYet Generate) is = form_refused Generate is refl is
+  words_refused (NotYet Parts) is = form_refused Parts is refl is
+  words_refused (NotYet Log) is = form_refused Log is refl is
+  words_refused (NotYet (Size bytes)) is = absurd (no_size call.command bytes is)
+  words_refused NoMemory bad = memory_bears
+  words_refused _ bad = absurd bad
+
+  -- ---- behind the words
+
+  module _ (command : Command) (is : call.command ≡ Ok command) (built : unbuilt_in command ≡ None) where
+    is_built : IsBuilt call
+    is_built = subst (λ (command : Result Command BadWord). IsBuilt (record call { command = command })) (sym is) built
+
+    exact_behind : (status : Status) → ((list : ListName) (bytes : ℕ) → IsTooLong call list bytes → IsOrEarlier (ListTooLong list bytes) status)
+        → ((bytes : ℕ) → IsTooLarge call bytes → IsOrEarlier (NotYet (Size bytes)) status) → IsExact call status
+    exact_behind status long large = record {
+      usage = subst (λ (command : Result Command BadWord). IfErr command (λ bad. IsOrEarlier (Usage bad.word bad.why) status)) (sym is) tt;
+      form = subst (λ (form : Option Unbuilt). IfSome form (λ what. IsOrEarlier (NotYet what) status)) (sym (ap unbuilt_of is ∙ built)) tt;
+      list = long;
+      size = large;
+    }
+
+    -- a list is too long, or could not be read
+    pub lists_refused : (refusal : Status) → IsListsEnd call.lists call.list_slots call.lists_rose refusal → Scanned call (refused refusal)
+    lists_refused (ListTooLong Stop size) end =
+        early (ListTooLong Stop size) (omega arith) end (exact_behind (ListTooLong Stop size) longer (λ bytes large. inr (omega arith)))
+      where
+        longer : (list : ListName) (bytes : ℕ) → IsTooLong call list bytes → IsOrEarlier (ListTooLong list bytes) (ListTooLong Stop size)
+        longer Stop bytes long = inl (ap (ListTooLong Stop) (size_is_one (call.lists Stop) (call.list_slots 0) size bytes end.measured long.measured))
+        longer Alert bytes long = inr (omega arith)
+    lists_refused (ListTooLong Alert size) end =
+        early (ListTooLong Alert size) (omega arith) end.0 (exact_behind (ListTooLong Alert size) longer (λ bytes large. inr (omega arith)))
+      where
+        longer : (list : ListName) (bytes : ℕ) → IsTooLong call list bytes → IsOrEarlier (ListTooLong list bytes) (ListTooLong Alert size)
+        longer Stop bytes long = absurd (omega (arith, end.1 bytes long.measured, long.above))
+        longer Alert bytes long = inl (ap (ListTooLong Alert) (size_is_one (call.lists Alert) (call.list_slots 1) size bytes end.0.measured long.measured))
+    lists_refused (ReadFault StopList) end =
+        early (ReadFault StopList) (omega arith) end (exact_behind (ReadFault StopList) longer (λ bytes large. inr (omega arith)))
+      where
+        longer : (list : ListName) (bytes : ℕ) → IsTooLong call list bytes → IsOrEarlier (ListTooLong list bytes) (ReadFault StopList)
+        longer Stop bytes long = inr (omega arith)
+        longer Alert bytes long = inr (omega arith)
+    lists_refused (ReadFault AlertList) end =
+        early (ReadFault AlertList) (omega arith) end.0 (exact_behind (ReadFault AlertList) longer (λ bytes large. inr (omega arith)))
+      where
+        longer : (list : ListName) (bytes : ℕ) → IsTooLong call list bytes → IsOrEarlier (ListTooLong list bytes) (ReadFault AlertList)
+        longer Stop bytes long = absurd (omega (arith, end.1 bytes long.measured, long.above))
+        longer Alert bytes long = inr (omega arith)
+    lists_refused NoMemory end = memory_bears
+    lists_refused _ end = absurd end
+
+    -- ---- behind the lists
+
+    module _ (fits : (list : ListName) → ListFits call.lists call.list_slots list) (listed : AreListed (lists_of (scan_of call.command)) call.list_slots) where
+      -- no list is too long
+      no_longer : (status : Status) (list : ListName) (bytes : ℕ) → IsTooLong call list bytes → IsOrEarlier (ListTooLong list bytes) status
+      no_longer status list bytes long = absurd (omega (arith, fits list bytes long.measured, long.above))
+
+      -- a pattern was refused
+      pub build_refused : (before now : Refusals) (refusal : Status) → IsBuildEnd before now refusal →
+          call.kit_rose ≡ Rose before.count now.count → call.kit_last ≡ now.last → Scanned call (refused refusal)
+      build_refused before now (PatternRefused index) end rose last = record {
+        cause = (subst (λ (T : Type 0). T) (sym rose) end.0, last ∙ end.1);
+        exact = exact_behind (PatternRefused index) (no_longer (PatternRefused index)) (λ bytes large. inr (omega arith));
+        lists = λ behind. listed;
+        readings = λ behind. absurd (omega (arith, behind));
+        parts = λ behind. absurd (omega (arith, behind));
+        found = tt;
+      }
+      build_refused before now NoMemory end rose last = memory_bears
+      build_refused before now _ end rose last = absurd end
+
+      -- ---- the scan of the part
+
+      module _ (scan : Scan) (part : List ℕ) (told : Option (List ℕ)) (scans : scan_in command ≡ Some scan) (one : scan.parts ≡ part ∷ [])
+          (same : call.image ≡ told) (read : AreRead call.reads scan.plan.patterns call.readings) where
+        scanned_is : scan_of call.command ≡ Some scan
+        scanned_is = ap scan_of is ∙ scans
+
+        part_end : (scanned : Result Counts Status) → IsCause call (scanned_as scanned) →
+            ((bytes : ℕ) → IsTooLarge call bytes → IsOrEarlier (NotYet (Size bytes)) (scanned_as scanned)) →
+            (IsBehind attach (scanned_as scanned) → IsSomeAnd (call.slots 0) (λ s. s.name ≡ part)) → HasFound call scanned → Scanned call scanned
+        part_end scanned cause large attached found = record {
+          cause = cause;
+          exact = exact_behind (scanned_as scanned) (no_longer (scanned_as scanned)) large;
+          lists = λ behind. listed;
+          readings = λ behind. subst (λ (scan : Option Scan). IfSome scan (λ scan. AreRead call.reads scan.plan.patterns call.readings)) (sym scanned_is) read;
+          parts = λ behind. subst (λ (scan : Option Scan). IfSome scan (λ scan. AreAttached call.slots 0 scan.parts)) (sym scanned_is)
+              (subst (AreAttached call.slots 0) (sym one) (attached behind, tt));
+          found = found;
+        }
+
+        -- no image that fits is too large
+        no_larger : (status : Status) → Fits IMAGE_MOST told (call.slots 0) → (bytes : ℕ) → IsTooLarge call bytes → IsOrEarlier (NotYet (Size bytes)) status
+        no_larger status fits bytes large =
+            absurd (omega (arith, fits bytes (subst (λ (told : Option (List ℕ)). IsSize told (call.slots 0) bytes) same large.measured), large.above))
+
+        same_size : (size bytes : ℕ) → IsSizeAbove IMAGE_MOST told (call.slots 0) size → IsTooLarge call bytes →
+            IsOrEarlier (NotYet (Size bytes)) (NotYet (Size size))
+        same_size size bytes above large =
+            let measured = subst (λ (told : Option (List ℕ)). IsSize told (call.slots 0) bytes) same large.measured in
+            inl (ap (λ (size : ℕ). NotYet (Size size)) (size_is_one told (call.slots 0) size bytes above.measured measured))
+
+        pub part_scanned : (scanned : Result Counts Status) →
+            (IsBehind attach (scanned_as scanned) → IsSomeAnd (call.slots 0) (λ s. s.name ≡ part)) →
+            (IsBehind size (scanned_as scanned) → Fits IMAGE_MOST told (call.slots 0)) →
+            OnOk scanned (HasReport call) → HasFound call scanned →
+            IfErr scanned (IsPartEnd scan.page told (call.slots 0) call.source_rose call.disk_rose) → Scanned call scanned
+        part_scanned (Ok done) attached fits report found end =
+            part_end (Ok done) (is_built, report) (no_larger Done (fits (omega arith))) attached found
+        part_scanned (Err (ReadFault Image)) attached fits report found end =
+            part_end (Err (ReadFault Image)) end (λ bytes large. inr (omega arith)) attached found
+        part_scanned (Err (NotYet (Size size))) attached fits report found end =
+            part_end (Err (NotYet (Size size))) (subst (λ (told : Option (List ℕ)). IsSizeAbove IMAGE_MOST told (call.slots 0) size) (sym same) end)
+            (λ bytes large. same_size size bytes end large) attached found
+        part_scanned (Err DiskFault) attached fits report found end =
+            part_end (Err DiskFault) end (no_larger DiskFault (fits (omega arith))) attached found
+        part_scanned (Err (ReadFault (Page page))) attached fits report found end =
+            part_end (Err (ReadFault (Page page))) (end.0, has_page) (no_larger (ReadFault (Page page)) (fits (omega arith))) attached found
+          where
+            has_page : HasPage call page
+            has_page = subst (λ (scan : Option Scan). IsSomeAnd scan (λ scan. (bytes : ℕ) × IsSize call.image (call.slots 0) bytes × (page * scan.page < bytes)))
+                (sym scanned_is) (subst (λ (told : Option (List ℕ)). PartHasPage scan.page told (call.slots 0) page) (sym same) end.1)
+        part_scanned (Err NoMemory) attached fits report found end = memory_bears
+        part_scanned (Err _) attached fits report found end = absurd end
+
+        -- ---- what the part bears, as the call says it
+
+        module _ (lists : ListEntries) (entries : AreEntries call.lists lists) where
+          abbrev found_in : List ℕ → List Classed
+          found_in = items_under lists (map call.matches call.readings) scan.plan
+
+          pub has_report : WritesPart scan.plan.scanners found_in told call.tells call.files → HasReport call
+          has_report written = subst (λ (scan : Option Scan). IfSome (option_and_then (case_told call) scan) (λ c. LeavesReport call.matches c call.tells call.files))
+              (sym scanned_is)
+              (report_told call.matches scan call.readings lists (call.lists Stop) (call.lists Alert) call.image call.tells call.files entries.stop entries.alert
+              (subst (λ (told : Option (List ℕ)). WritesPart scan.plan.scanners found_in told call.tells call.files) (sym same) written))
+
+          pub has_found : (scanned : Result Counts Status) → IfOk scanned (CountsPart scan.page found_in told) → HasFound call scanned
+          has_found (Ok found) is = subst (λ (scan : Option Scan). IfSome (option_and_then (case_told call) scan) (λ c. found ≡ counts_of call.matches FILES_BUILT c))
+              (sym scanned_is)
+              (counts_told call.matches scan call.readings lists (call.lists Stop) (call.lists Alert) call.image found entries.stop entries.alert
+              (subst (λ (told : Option (List ℕ)). CountsPart scan.page found_in told found) (sym same) is))
+          has_found (Err refusal) is = tt
+
+-- ---- one part
+
+-- the bytes of an image of one part
+pub joined_one : (told : List ℕ → Option (List ℕ)) (part : List ℕ) → joined told (part ∷ []) ≡ told part
+joined_one told part = of_told (told part)
+  where
+    of_told : (bytes : Option (List ℕ)) → option_and_then (λ bytes. option_map (λ rest. bytes ++ rest) (Some [])) bytes ≡ bytes
+    of_told None = refl
+    of_told (Some bytes) = ap Some (append-nil bytes)
+
+-- a list of one
+pub only_one : (parts : List (List ℕ)) (d : List ℕ) → length parts ≡ 1 → parts ≡ slice_index_or parts 0 d ∷ []
+only_one [] d one = absurd (omega (arith, one))
+only_one (part ∷ []) d one = refl
+only_one (part ∷ other ∷ parts) d one = absurd (omega (arith, one))
+
+-- ---- the command of a scan
+
+-- the command that words give is the scan's, and its form is built
+pub command_is : (command : Result Command BadWord) (scan : Scan) → scan_of command ≡ Some scan → unbuilt_of command ≡ None →
+    (given : Command) × (command ≡ Ok given) × (unbuilt_in given ≡ None) × (scan_in given ≡ Some scan)
+command_is (Ok given) scan is built = (given, refl, built, is)
+command_is (Err bad) scan is built = absurd (none_is is)
+  where
+    none_is : None ≡ Some scan → ⊥
+    none_is is = cc
+
+parts_in : Option Scan → List (List ℕ)
+parts_in (Some scan) = scan.parts
+parts_in None = []
+
+few_by : (parts : List (List ℕ)) (log test : Bool) → nat_lt 1 (length parts) ≡ test →
+    (if test then Some Parts else (if log then Some Log else None)) ≡ None → length parts ≤ 1
+few_by parts log true is built = absurd (some_is built)
+  where
+    some_is : Some Parts ≡ None → ⊥
+    some_is is = cc
+few_by parts log false is built = grind (arith, nat_tests)
+
+-- a form that is built has no more than one part
+pub few_parts : (given : Command) (scan : Scan) → scan_in given ≡ Some scan → unbuilt_in given ≡ None → length scan.parts ≤ 1
+unfolding parts_in
+few_parts (ScanCommand settings parts place) scan is built =
+    let same : parts ≡ scan.parts = ap parts_in is in
+    rw (← same) (few_by parts settings.with_log (nat_lt 1 (length parts)) refl built)
+few_parts (GenerateCommand settings seed size) scan is built = absurd (some_is built)
+  where
+    some_is : Some Generate ≡ None → ⊥
+    some_is is = cc
+
+pub on_ok : {T E : Type 0} (result : Result T E) (P Q : Type 0) → (P → Q) → OnOk result P → OnOk result Q
+on_ok (Ok value) P Q gives p = gives p
+on_ok (Err e) P Q gives p = tt
+
+-- where the count of the source rose, that of some source did
+pub part_end_among : (page : ℕ) (told : Option (List ℕ)) (slot : Option Slot) (rose among disk : Type 0) → (rose → among) → (scanned : Result Counts Status) →
+    IfErr scanned (IsPartEnd page told slot rose disk) → IfErr scanned (IsPartEnd page told slot among disk)
+part_end_among page told slot rose among disk more (Ok found) end = tt
+part_end_among page told slot rose among disk more (Err (ReadFault Image)) end = more end
+part_end_among page told slot rose among disk more (Err (ReadFault (Page number))) end = (more end.0, end.1)
+part_end_among page told slot rose among disk more (Err (NotYet (Size bytes))) end = end
+part_end_among page told slot rose among disk more (Err DiskFault) end = end
+part_end_among page told slot rose among disk more (Err NoMemory) end = tt
+part_end_among page told slot rose among disk more (Err _) end = absurd end
