@@ -1,0 +1,4 @@
+pub mod Filled
+mod Rows
+pub mod Sizes
+pub mod Steps
