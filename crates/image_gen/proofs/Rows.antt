@@ -1,5 +1,5 @@
 -- Images by example: words, texts and blocks.
-use Rattle.std.specs.Prelude.{ℕ, ◌≡◌, ◌^◌, ◌-◌, List, [], ◌∷◌, ◌++◌, map, fold, take, drop, codes, refl}
+use Rattle.std.specs.Prelude.{ℕ, ◌≡◌, [], ◌∷◌, map, fold, codes, refl}
 use Rattle.std.specs.List.{range_with_len}
 use Rattle.base64.specs.Rfc4648.{encode_symbols}
 use Rattle.hex.specs.Hex.{encode_with}

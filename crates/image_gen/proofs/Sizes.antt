@@ -1,5 +1,5 @@
 -- How many bytes blocks and images have.
-use Rattle.std.proofs.Common.{◌≡◌, ◌∙◌, ℕ, zero, suc, ◌+◌, ◌*◌, ◌≤◌, length, ap, refl, arith, add-one, length-append}
+use Rattle.std.proofs.Common.{◌≡◌, ◌∙◌, ℕ, zero, suc, ◌+◌, ◌*◌, length, ap, refl, arith, length-append}
 use Rattle.std.proofs.lemmas.List.{length-take}
 use Rattle.image_gen.specs.Words.{word_at}
 use Rattle.image_gen.specs.Blocks.{text_of, kind_of, block_of}
@@ -14,8 +14,9 @@ length-blocks seed (suc count) =
     let one : suc count ≡ count + 1 = omega arith in
     let last : length (block_of count (word_at seed count)) ≡ 4096 =
     length-filled BLOCK_SIZE (text_of (kind_of count) (word_at seed count)) in
-    rw (one, blocks_more seed count)
-    (omega (arith, last, length-blocks seed count, length-append (blocks_of seed count) (block_of count (word_at seed count))))
+    ap (λ (n : ℕ). length (blocks_of seed n)) one
+    ∙ ap length (blocks_more seed count)
+    ∙ omega (arith, last, length-blocks seed count, length-append (blocks_of seed count) (block_of count (word_at seed count)))
 
 pub length-image : (seed size : ℕ) → length (image_of seed size) ≡ size
 length-image seed size =

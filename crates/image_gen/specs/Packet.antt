@@ -1,6 +1,6 @@
 -- A packet of no more than headers: Ethernet (RFC 894) and IPv4 (RFC 791 section 3.1), from 192.0.2.0/24 to
 -- 198.51.100.0/24, two networks that stand in documents alone (RFC 5737).
-use Rattle.std.specs.Prelude.{ℕ, ◌+◌, ◌-◌, ◌*◌, ◌/◌, ◌%◌, List, [], ◌∷◌, ◌++◌, length, map, fold}
+use Rattle.std.specs.Prelude.{ℕ, ◌+◌, ◌-◌, ◌*◌, ◌/◌, ◌%◌, List, [], ◌∷◌, length, map, fold}
 use Rattle.std.specs.List.{range_with_len}
 use Rattle.byte_kit.specs.Numbers.{be16}
 

@@ -1,7 +1,8 @@
-use Rattle.std.proofs.Common.{◌≡◌, ◌∙◌, refl, List, ℕ, ◌++◌, ap, sym}
-use Rattle.image_gen.specs.Words.{state_after, word_at}
+use Rattle.std.proofs.Common.{◌≡◌, ◌∙◌, List, ℕ, ◌++◌, ap, sym, arith, length, take}
+use Rattle.image_gen.specs.Words.{state_after}
 use Rattle.image_gen.specs.Blocks.{block_of}
-use Rattle.image_gen.specs.Image.{blocks_of}
+use Rattle.image_gen.specs.Image.{block_count, blocks_of}
+use Rattle.image_gen.proofs.Sizes.{length-image}
 use Rattle.image_gen.proofs.Steps.{state_more, word_is, blocks_more}
 use Rattle.image_gen.proofs.image.image_of_seed.Goals as goal
 
@@ -25,4 +26,9 @@ loop-number-preserved c =
     }
 
 pub returns-clause-size : goal.returns-clause-size
-returns-clause-size c = ?
+returns-clause-size c =
+    let seed : ℕ = c.args.seed in
+    let size : ℕ = c.args.size in
+    let all : c.loop-number.number ≡ block_count size = omega (arith, c.div_ceil-count.ensures) in
+    ap length (c.truncate.ensures.items ∙ ap (take size) (c.loop-number.invariant.made ∙ ap (blocks_of seed) all))
+    ∙ length-image seed size

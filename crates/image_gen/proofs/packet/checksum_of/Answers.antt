@@ -1,6 +1,4 @@
 use Rattle.std.proofs.Common.{◌≡◌, ◌∙◌, ℕ, ◌-◌, ◌*◌, ◌/◌, length, ap, arith}
-use Rattle.std.specs.Prelude.{map, fold}
-use Rattle.std.specs.List.{range_with_len}
 use Rattle.byte_kit.specs.Numbers.{be16}
 use Rattle.image_gen.specs.Packet.{add_words, checksum_of}
 use Rattle.image_gen.proofs.Steps.{fold_range_more}

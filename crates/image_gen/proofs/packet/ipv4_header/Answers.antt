@@ -1,5 +1,4 @@
-use Rattle.std.proofs.Common.{◌≡◌, ◌∙◌, ℕ, ◌/◌, ◌%◌, refl, arith}
-use Rattle.image_gen.specs.Packet.{checksum_of, header_with}
+use Rattle.std.proofs.Common.{◌≡◌, ◌/◌, ◌%◌, refl, arith}
 use Rattle.image_gen.proofs.packet.ipv4_header.Goals as goal
 
 pub returns : goal.returns
