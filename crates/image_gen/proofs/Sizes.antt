@@ -19,5 +19,6 @@ length-blocks seed (suc count) =
     ∙ omega (arith, last, length-blocks seed count, length-append (blocks_of seed count) (block_of count (word_at seed count)))
 
 pub length-image : (seed size : ℕ) → length (image_of seed size) ≡ size
+unfolding image_of
 length-image seed size =
     length-take size (blocks_of seed (block_count size)) ∙ omega (arith, length-blocks seed (block_count size))

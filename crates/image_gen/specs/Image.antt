@@ -13,5 +13,6 @@ block_count size = (size + BLOCK_SIZE - 1) / BLOCK_SIZE
 abbrev pub blocks_of : ℕ → ℕ → List ℕ
 blocks_of seed count = flat_map (λ number. block_of number (word_at seed number)) (range_with_len 0 count)
 
-abbrev pub image_of : ℕ → ℕ → List ℕ
+-- the image of a seed, with so many bytes
+unfoldable pub image_of : ℕ → ℕ → List ℕ
 image_of seed size = take size (blocks_of seed (block_count size))

@@ -1,7 +1,7 @@
 use Rattle.std.proofs.Common.{◌≡◌, ◌∙◌, List, ℕ, ◌++◌, ap, sym, arith, length, take}
 use Rattle.image_gen.specs.Words.{state_after}
 use Rattle.image_gen.specs.Blocks.{block_of}
-use Rattle.image_gen.specs.Image.{block_count, blocks_of}
+use Rattle.image_gen.specs.Image.{block_count, blocks_of, image_of}
 use Rattle.image_gen.proofs.Sizes.{length-image}
 use Rattle.image_gen.proofs.Steps.{state_more, word_is, blocks_more}
 use Rattle.image_gen.proofs.image.image_of_seed.Goals as goal
@@ -25,10 +25,15 @@ loop-number-preserved c =
           ∙ sym (blocks_more seed number);
     }
 
-pub returns-clause-size : goal.returns-clause-size
-returns-clause-size c =
-    let seed : ℕ = c.args.seed in
-    let size : ℕ = c.args.size in
-    let all : c.loop-number.number ≡ block_count size = omega (arith, c.div_ceil-count.ensures) in
-    ap length (c.truncate.ensures.items ∙ ap (take size) (c.loop-number.invariant.made ∙ ap (blocks_of seed) all))
-    ∙ length-image seed size
+-- all blocks are there, and are cut at the size
+is_image : (seed size count : ℕ) (made cut : List ℕ) → count ≡ block_count size → made ≡ blocks_of seed count
+    → cut ≡ take size made → cut ≡ image_of seed size
+unfolding image_of
+is_image seed size count made cut all blocks is = is ∙ ap (take size) (blocks ∙ ap (blocks_of seed) all)
+
+pub returns : goal.returns
+returns c =
+    let all : c.loop-number.number ≡ block_count c.args.size = omega (arith, c.div_ceil-count.ensures) in
+    let is : c.truncate.new.self.items ≡ image_of c.args.seed c.args.size =
+    is_image _ _ _ _ _ all c.loop-number.invariant.made c.truncate.ensures.items in
+    record { image = is; size = ap length is ∙ length-image c.args.seed c.args.size }
