@@ -1,3 +1,4 @@
+pub mod Appended
 pub mod Filled
 mod Rows
 pub mod Sizes

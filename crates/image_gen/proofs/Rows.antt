@@ -5,7 +5,7 @@ use Rattle.base64.specs.Rfc4648.{encode_symbols}
 use Rattle.hex.specs.Hex.{encode_with}
 use Rattle.image_gen.specs.Words.{state_after, word_at}
 use Rattle.image_gen.specs.Packet.{words_of, add_words, checksum_of, ipv4_header}
-use Rattle.image_gen.specs.Blocks.{letters_of, base64_lines, widened, kind_of, text_of, filled}
+use Rattle.image_gen.specs.Blocks.{url_of, link_of, note_of, letters_of, lines_of, widened, kind_of, text_of, filled}
 use Rattle.image_gen.specs.declared.kind.Kind.TheVariants.{Line, Base64, Packet, Hex}
 
 -- ---- words
@@ -24,23 +24,23 @@ last_seed = refl
 
 -- the last six decimal digits of the word, leading zeros included
 line : text_of Line 7000000012005 ≡ codes "Seen at http://h005.example/i-012 and kept.\n"
-unfolding text_of
+unfolding text_of url_of
 line = refl
 
 letters : letters_of 7000000012005 ≡ codes "S2VwdCBsaW5rIGh0dHA6Ly9oMDA1LmV4YW1wbGUvaS0wMTIgaW4gdGhpcyBub3RlLg=="
-unfolding encode_symbols
+unfolding letters_of note_of url_of encode_symbols
 letters = refl
 
-lines : base64_lines (letters_of 7000000012005)
+lines : lines_of 32 (letters_of 7000000012005)
     ≡ codes "S2VwdCBsaW5rIGh0dHA6Ly9oMDA1LmV4\r\nYW1wbGUvaS0wMTIgaW4gdGhpcyBub3Rl\r\nLg==\r\n"
-unfolding encode_symbols
+unfolding lines_of letters_of note_of url_of encode_symbols
 lines = refl
 
 wide : widened (codes "Li") ≡ 0x4c ∷ 0 ∷ 0x69 ∷ 0 ∷ []
 wide = refl
 
 digits : text_of Hex 7000000012005 ≡ codes "4c696e6b20687474703a2f2f683030352e6578616d706c652f692d303132"
-unfolding text_of encode_with
+unfolding text_of link_of url_of encode_with
 digits = refl
 
 -- ---- packets

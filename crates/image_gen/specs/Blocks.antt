@@ -15,14 +15,14 @@ abbrev pub three_digits : ℕ → List ℕ
 three_digits number = (48 + number / 100) ∷ (48 + number / 10 % 10) ∷ (48 + number % 10) ∷ []
 
 -- the word chooses a host and a name below it, by its last six decimal digits
-abbrev pub url_of : ℕ → List ℕ
+unfoldable pub url_of : ℕ → List ℕ
 url_of word =
     codes "http://h" ++ three_digits (word % 1000) ++ codes ".example/i-" ++ three_digits (word / 1000 % 1000)
 
-abbrev pub link_of : ℕ → List ℕ
+unfoldable pub link_of : ℕ → List ℕ
 link_of word = codes "Link " ++ url_of word
 
-abbrev pub note_of : ℕ → List ℕ
+unfoldable pub note_of : ℕ → List ℕ
 note_of word = codes "Kept link " ++ url_of word ++ codes " in this note."
 
 -- ---- the eight kinds
@@ -31,13 +31,13 @@ abbrev pub seen_line : ℕ → List ℕ
 seen_line word = codes "Seen at " ++ url_of word ++ codes " and kept.\n"
 
 -- the note in Base64 with padding (RFC 4648 section 4): 68 letters
-abbrev pub letters_of : ℕ → List ℕ
+unfoldable pub letters_of : ℕ → List ℕ
 letters_of word = encode_of standard (note_of word)
 
--- CR LF behind each 32 letters, and behind the last ones
-abbrev pub base64_lines : List ℕ → List ℕ
-base64_lines letters =
-    take 32 letters ++ codes "\r\n" ++ take 32 (drop 32 letters) ++ codes "\r\n" ++ drop 32 (drop 32 letters) ++ codes "\r\n"
+-- CR LF behind each row of so many letters, and behind the last ones: two whole rows, and what is left
+unfoldable pub lines_of : ℕ → List ℕ → List ℕ
+lines_of size letters =
+    take size letters ++ codes "\r\n" ++ take size (drop size letters) ++ codes "\r\n" ++ drop size (drop size letters) ++ codes "\r\n"
 
 -- ASCII as UTF-16, the low byte first: each byte has a zero byte behind it
 abbrev pub widened : List ℕ → List ℕ
@@ -65,7 +65,7 @@ kind_of number =
 -- what a block of this kind holds for a word
 unfoldable pub text_of : Kind → ℕ → List ℕ
 text_of Line word = seen_line word
-text_of Base64 word = base64_lines (letters_of word)
+text_of Base64 word = lines_of 32 (letters_of word)
 text_of Wide word = widened (link_of word)
 text_of Packet word = packet_of word
 text_of Empty word = []

@@ -1,6 +1,6 @@
 // A block: what it holds, and zeros behind it.
-ghost use Rattle.std.specs.Prelude.{◌≡◌, ◌++◌, codes, OnOk};
-ghost use Rattle.image_gen.specs.Blocks.{base64_lines, block_of, letters_of, link_of, packet_of, seen_line, text_of, widened};
+ghost use Rattle.std.specs.Prelude.{◌≡◌, ◌+◌, ◌≤◌, ◌++◌, codes, length, OnOk};
+ghost use Rattle.image_gen.specs.Blocks.{block_of, letters_of, lines_of, link_of, packet_of, seen_line, text_of, widened};
 ghost use Rattle.hex.specs.Hex.{encode_lower};
 
 use crate::kind::Kind;
@@ -37,7 +37,7 @@ fn push_text(kind: Kind, word: u64, into: &mut Vec<u8>) -> Result<(), NoMemory>
 {
     match kind {
         Kind::Line => push_line(word, into)?,
-        Kind::Base64 => push_base64(word, into)?,
+        Kind::Base64 => push_lines(&letters_of(word), 32, into)?,
         Kind::Wide => push_wide(&link_of(word), into)?,
         Kind::Packet => push_packet(word, into)?,
         Kind::Empty => {}
@@ -57,19 +57,21 @@ fn push_line(word: u64, into: &mut Vec<u8>) -> Result<(), NoMemory>
     Ok(())
 }
 
-// Appends the letters of a note in three lines.
-fn push_base64(word: u64, into: &mut Vec<u8>) -> Result<(), NoMemory>
-    ensures { OnOk result (into.new.items ≡ into.old.items ++ base64_lines (letters_of word)) }
+// Appends letters in three lines: two of so many letters, and one of what is left.
+#[tactic(auto, unfolding(crate::specs::Blocks::lines_of))]
+fn push_lines(letters: &[u8], size: usize, into: &mut Vec<u8>) -> Result<(), NoMemory>
+    requires { size + size ≤ length letters.now }
+    ensures { OnOk result (into.new.items ≡ into.old.items ++ lines_of size letters.now) }
 {
-    let letters = letters_of(word);
-    let (first, rest) = letters.split_at(32);
-    let (second, last) = rest.split_at(32);
+    let (first, rest) = letters.split_at(size);
+    let (second, last) = rest.split_at(size);
     push_ended(first, into)?;
     push_ended(second, into)?;
     push_ended(last, into)
 }
 
 // The letters of a note in Base64, with padding.
+#[tactic(auto, unfolding(crate::specs::Blocks::letters_of))]
 fn letters_of(word: u64) -> [u8; 68]
     ensures { result ≡ letters_of word }
 {

@@ -3,6 +3,7 @@ ghost use Rattle.std.specs.Prelude.{◌≡◌, ◌<◌};
 ghost use Rattle.image_gen.specs.Blocks.{link_of, note_of, three_digits, url_of};
 
 // The URL of a word.
+#[tactic(auto, unfolding(crate::specs::Blocks::url_of))]
 pub(crate) fn url_of(word: u64) -> [u8; 25]
     ensures { result ≡ url_of word }
 {
@@ -13,6 +14,7 @@ pub(crate) fn url_of(word: u64) -> [u8; 25]
 }
 
 // The URL behind a word of text.
+#[tactic(auto, unfolding(crate::specs::Blocks::link_of, crate::specs::Blocks::url_of))]
 pub(crate) fn link_of(word: u64) -> [u8; 30]
     ensures { result ≡ link_of word }
 {
@@ -22,6 +24,7 @@ pub(crate) fn link_of(word: u64) -> [u8; 30]
 }
 
 // The URL in a longer text.
+#[tactic(auto, unfolding(crate::specs::Blocks::note_of, crate::specs::Blocks::url_of))]
 pub(crate) fn note_of(word: u64) -> [u8; 49]
     ensures { result ≡ note_of word }
 {
