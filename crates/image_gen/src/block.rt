@@ -36,15 +36,22 @@ fn push_text(kind: Kind, word: u64, into: &mut Vec<u8>) -> Result<(), NoMemory>
     ensures { OnOk result (into.new.items ≡ into.old.items ++ text_of kind word) }
 {
     match kind {
-        Kind::Line => push_line(word, into)?,
-        Kind::Base64 => push_lines(&letters_of(word), 32, into)?,
-        Kind::Wide => push_wide(&link_of(word), into)?,
-        Kind::Packet => push_packet(word, into)?,
-        Kind::Empty => {}
-        Kind::Elf => into.extend_from_slice(&ELF_FRONT)?,
-        Kind::Gzip => into.extend_from_slice(&GZIP_FRONT)?,
-        Kind::Hex => push_hex(word, into)?,
+        Kind::Line => push_line(word, into),
+        Kind::Base64 => push_lines(&letters_of(word), 32, into),
+        Kind::Wide => push_wide(&link_of(word), into),
+        Kind::Packet => push_packet(word, into),
+        Kind::Empty => Ok(()),
+        Kind::Elf => push(&ELF_FRONT, into),
+        Kind::Gzip => push(&GZIP_FRONT, into),
+        Kind::Hex => push_hex(word, into),
     }
+}
+
+// Appends bytes that every block of a kind has.
+fn push(bytes: &[u8], into: &mut Vec<u8>) -> Result<(), NoMemory>
+    ensures { OnOk result (into.new.items ≡ into.old.items ++ bytes.now) }
+{
+    into.extend_from_slice(bytes)?;
     Ok(())
 }
 
