@@ -43,7 +43,7 @@ lines_of size letters =
 abbrev pub widened : List ℕ → List ℕ
 widened text = flat_map (λ byte. byte ∷ 0 ∷ []) text
 
--- the word's last two bytes are those of the addresses
+-- the word's two low bytes are the last ones of the addresses
 abbrev pub packet_of : ℕ → List ℕ
 packet_of word = ethernet_header ++ ipv4_header (word % 256) (word / 256 % 256)
 
