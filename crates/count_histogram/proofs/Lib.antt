@@ -1,1 +1,7 @@
+mod Adding
+mod Ahead
+mod Distinct
+mod Kept
+mod Placed
 mod Rows
+mod Tally

@@ -5,8 +5,10 @@
 //! `specs/Histogram.antt` says which [`Row`]s a list of items has, and in which order they stand.
 #![tactic(auto)]
 
+mod counts;
 mod row;
 mod rule;
 
+pub use counts::Counts;
 pub use row::Row;
 pub use rule::Rule;
