@@ -48,16 +48,16 @@ module _ {Z : Type 0} (bs : List ℕ) (old new : List (Vec ℕ Z × ℕ)) where
       let turn : bytes_eq q bs ≡ bytes_eq bs q = nat_list_eq_equiv.symm q bs in
       ⊎_elim
       (λ y. let e : q ≡ bs = same y in
-        let f : found new q ≡ found new bs = ap (found new) e in
-        let g : found old q ≡ found old bs = ap (found old) e in
-        let u : unwrap_or (found new q) 0 ≡ n = ap (λ o. unwrap_or o 0) (f ∙ here) in
-        let v : unwrap_or (found old q) 0 ≡ unwrap_or (found old bs) 0 = ap (λ o. unwrap_or o 0) g in
-        let w : cond {A = ℕ} (bytes_eq q bs) 1 0 ≡ 1 = cond-true (bytes_eq q bs) 1 0 y in
-        omega arith)
+      let f : found new q ≡ found new bs = ap (found new) e in
+      let g : found old q ≡ found old bs = ap (found old) e in
+      let u : unwrap_or (found new q) 0 ≡ n = ap (λ o. unwrap_or o 0) (f ∙ here) in
+      let v : unwrap_or (found old q) 0 ≡ unwrap_or (found old bs) 0 = ap (λ o. unwrap_or o 0) g in
+      let w : cond {A = ℕ} (bytes_eq q bs) 1 0 ≡ 1 = cond-true (bytes_eq q bs) 1 0 y in
+      omega arith)
       (λ y. let f : found new q ≡ found old q = others keeps q (sym turn ∙ y) in
-        let u : unwrap_or (found new q) 0 ≡ unwrap_or (found old q) 0 = ap (λ o. unwrap_or o 0) f in
-        let w : cond {A = ℕ} (bytes_eq q bs) 1 0 ≡ 0 = cond-false (bytes_eq q bs) 1 0 y in
-        omega arith)
+      let u : unwrap_or (found new q) 0 ≡ unwrap_or (found old q) 0 = ap (λ o. unwrap_or o 0) f in
+      let w : cond {A = ℕ} (bytes_eq q bs) 1 0 ≡ 0 = cond-false (bytes_eq q bs) 1 0 y in
+      omega arith)
       (cases_Bool (bytes_eq q bs))
 
 -- the same, for what the calls of a map say of it: the rows before, the count before, the item as the key has it

@@ -79,8 +79,8 @@ kept_once q item items rest false e h = ap (λ b. bytes_eq q item || b) h
 kept_once q item items rest true e h =
     ⊎_elim
     (λ y. let is : q ≡ item = (bytes_decides q item).0 y in
-        let any : list_any (bytes_eq q) items ≡ true = rw is e in
-        rw y (h ∙ any))
+    let any : list_any (bytes_eq q) items ≡ true = rw is e in
+    rw y (h ∙ any))
     (λ n. rw n h)
     (cases_Bool (bytes_eq q item))
 
@@ -121,7 +121,7 @@ tally_of items = record {
   once = subst (λ (l : List (List ℕ)). IsDistinct bytes_eq l) (sym (items_back (copies items) (distinct items))) (once items);
   added = All-from_recursion (λ (row : Row). 0 < row.count) (counted items) (positive (copies items) (distinct items)
       (all_distinct (λ item. 0 < copies items item) items (recursion_from_All (λ item. 0 < copies items item) items
-          (All-weaker (λ item. list_any (bytes_eq item) items ≡ true) (λ item. 0 < copies items item) (λ item. some (bytes_eq item) items) items (All-is_member nat_list_eq_equiv items)))));
+      (All-weaker (λ item. list_any (bytes_eq item) items ≡ true) (λ item. 0 < copies items item) (λ item. some (bytes_eq item) items) items (All-is_member nat_list_eq_equiv items)))));
 }
 
 picked : (b : Bool) (n : ℕ) → (b ≡ false → n ≡ 0) → cond b n 0 ≡ n
@@ -142,8 +142,8 @@ unfolding rows_of
 sorted_rows rows sorted tally moved up items counts =
     let mine = tally_of items in
     same sorted (in_order (counted items))
-        (sorted_by_sort sorted up (IsDistinct-IsPermutation (eq_by_cmp order) flips rows sorted moved (untied rows tally.once)))
-        (sorted_in_order (counted items) (untied (counted items) mine.once))
-        (λ row. sym (list_any-IsPermutation (eq_by_cmp order row) rows sorted moved)
-            ∙ agree rows (counted items) tally mine (λ item. counts item ∙ sym (counts_of items item)) row
-            ∙ sym (has_in_order (eq_by_cmp order row) (counted items)))
+    (sorted_by_sort sorted up (IsDistinct-IsPermutation (eq_by_cmp order) flips rows sorted moved (untied rows tally.once)))
+    (sorted_in_order (counted items) (untied (counted items) mine.once))
+    (λ row. sym (list_any-IsPermutation (eq_by_cmp order row) rows sorted moved)
+    ∙ agree rows (counted items) tally mine (λ item. counts item ∙ sym (counts_of items item)) row
+    ∙ sym (has_in_order (eq_by_cmp order row) (counted items)))

@@ -4,4 +4,5 @@ mod Distinct
 mod Kept
 mod Placed
 mod Rows
+mod Services
 mod Tally

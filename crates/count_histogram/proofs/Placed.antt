@@ -76,7 +76,7 @@ sorted_placed row [] apart s = (tt, tt)
 sorted_placed row (first ∷ rows) apart s =
     let parts = neither (eq_by_cmp order row first) (list_any (eq_by_cmp order row) rows) apart in
     sorted_either row first rows (placed row rows) (is_ahead row first) (sym (ahead row first)) parts.0
-        (λ e. all_placed (λ r. order first r ≡ Less) row rows e s.0) s (sorted_placed row rows parts.1 s.1)
+    (λ e. all_placed (λ r. order first r ≡ Less) row rows e s.0) s (sorted_placed row rows parts.1 s.1)
 
 none : (row : Row) (rows : List Row) → AllByRecursion (λ r. eq_by_cmp order row r ≡ false) rows → list_any (eq_by_cmp order row) rows ≡ false
 none row [] h = refl

@@ -33,16 +33,16 @@ there [] once added row e = absurd (cc)
 there (first ∷ rows) once added row e =
     ⊎_elim
     (λ y. let same : row ≡ first = exact row first (equal (order row first) y) in
-        let itself = nat_list_eq_equiv.refl first.item in
-        subst (λ (r : Row). (count_in (first ∷ rows) r.item ≡ r.count) × (0 < r.count)) (sym same) (rw itself refl, All-head (λ row. 0 < row.count) first rows added))
+    let itself = nat_list_eq_equiv.refl first.item in
+    subst (λ (r : Row). (count_in (first ∷ rows) r.item ≡ r.count) × (0 < r.count)) (sym same) (rw itself refl, All-head (λ row. 0 < row.count) first rows added))
     (λ n. let rest : list_any (eq_by_cmp order row) rows ≡ true = rw n at e in
-        let found = there rows once.1 (All-tail (λ row. 0 < row.count) first rows added) row rest in
-        ⊎_elim
-        (λ y. let is : row.item ≡ first.item = (bytes_decides row.item first.item).0 y in
-            let zero : count_in rows row.item ≡ 0 = rw is (absent first.item rows once.0) in
-            absurd (omega arith))
-        (λ apart. (rw apart found.0, found.1))
-        (cases_Bool (bytes_eq row.item first.item)))
+    let found = there rows once.1 (All-tail (λ row. 0 < row.count) first rows added) row rest in
+    ⊎_elim
+    (λ y. let is : row.item ≡ first.item = (bytes_decides row.item first.item).0 y in
+    let zero : count_in rows row.item ≡ 0 = rw is (absent first.item rows once.0) in
+    absurd (omega arith))
+    (λ apart. (rw apart found.0, found.1))
+    (cases_Bool (bytes_eq row.item first.item)))
     (cases_Bool (eq_by_cmp order row first))
 
 equal_numbers : (m n : ℕ) → m ≡ n → (m == n) ≡ true
@@ -66,8 +66,8 @@ here [] row e positive = absurd (omega arith)
 here (first ∷ rows) row e positive =
     ⊎_elim
     (λ y. let count : first.count ≡ row.count = rw y at e in
-        let tied : eq_by_cmp order row first ≡ true = ties row first ∙ both (first.count == row.count) (bytes_eq row.item first.item) (equal_numbers first.count row.count count) y in
-        rw tied refl)
+    let tied : eq_by_cmp order row first ≡ true = ties row first ∙ both (first.count == row.count) (bytes_eq row.item first.item) (equal_numbers first.count row.count count) y in
+    rw tied refl)
     (λ apart. rw (here rows row (rw apart at e) positive) (or_true (eq_by_cmp order row first)))
     (cases_Bool (bytes_eq row.item first.item))
 

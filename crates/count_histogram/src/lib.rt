@@ -6,9 +6,11 @@
 #![tactic(auto)]
 
 mod counts;
+mod item;
 mod row;
 mod rule;
 
 pub use counts::Counts;
-pub use row::Row;
+pub use item::{item_into, item_of};
+pub use row::{Row, row_line, row_line_into};
 pub use rule::Rule;

@@ -25,13 +25,13 @@ returns-in-Some-clause-added c =
     let count : c.in-Some.count.now ≡ unwrap_or (found c.self.inside.counts.entries c.args.item.now) 0 = ap (λ o. unwrap_or o 0) here in
     let writes = (c.get_mut.follows.holds (c.in-Some.count.now + 1)).3 (search rules) in
     counted c.args.self.now c.args.item.now c.args.item.now c.self.inside.counts.entries (c.get_mut.follows.lender (c.in-Some.count.now + 1)).entries (c.in-Some.count.now + 1)
-        c.self.view_is refl (omega arith) writes.1 writes.3
+    c.self.view_is refl (omega arith) writes.1 writes.3
 
 pub invariant_of-self-2 : goal.invariant_of-self-2
 invariant_of-self-2 c =
     let old : AreAdded c.get_mut.follows.lender-at-none.entries = rw c.get_mut.follows.holds-at-none c.self.invariant in
     All-values-PutsEntry (λ x y. bytes_eq x.items y.items) (λ count. 0 < count) c.get_mut.follows.lender-at-none c.insert.new.self c.in_ok-key.key 1 c.in_ok-insert.field-0
-        c.in_ok-insert.ensures.entries old (omega arith)
+    c.in_ok-insert.ensures.entries old (omega arith)
 
 pub returns-clause-added : goal.returns-clause-added
 returns-clause-added c =
@@ -41,4 +41,4 @@ returns-clause-added c =
     let count = ap (λ o. unwrap_or o 0) absent in
     let u = c.in_ok-insert.ensures.updates in
     counted c.args.self.now c.args.item.now c.in_ok-key.key.items c.get_mut.follows.lender-at-none.entries c.insert.new.self.entries 1
-        (ap (λ m. rows_kept m.entries) same ∙ c.self.view_is) c.in_ok-key.ensures.items (omega arith) u.1 u.3
+    (ap (λ m. rows_kept m.entries) same ∙ c.self.view_is) c.in_ok-key.ensures.items (omega arith) u.1 u.3
