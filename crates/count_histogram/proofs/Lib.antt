@@ -1,6 +1,7 @@
 mod Adding
 mod Ahead
 mod Distinct
+pub mod ForCallers
 mod Kept
 mod Placed
 mod Rows

@@ -14,3 +14,6 @@ pub use counts::Counts;
 pub use item::{item_into, item_of};
 pub use row::{Row, row_line, row_line_into};
 pub use rule::Rule;
+
+#[cfg(test)]
+mod tests;
