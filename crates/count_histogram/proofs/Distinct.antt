@@ -1,11 +1,10 @@
 -- A row for each item of a list: the items of a list, each once, with the number of its copies.
-use Rattle.std.proofs.Common.{arith, ◌≡◌, refl, sym, ap, subst, ◌∙◌, ℕ, ◌+◌, ◌<◌, Bool, true, false, cond, ◌||◌, List, [], ◌∷◌, bytes_eq, count_by, sum_by, All, map}
-use Rattle.std.specs.Ordering.{eq_by_cmp, is_lt}
-use Rattle.std.specs.Cmp.{IsEquivalence}
+use Rattle.std.proofs.Common.{arith, ◌≡◌, refl, sym, ap, subst, ◌∙◌, ℕ, ◌+◌, ◌<◌, Bool, true, false, cond, ◌||◌, List, [], ◌∷◌, bytes_eq, count_by, map}
+use Rattle.std.specs.Ordering.{eq_by_cmp}
 use Rattle.std.specs.Cmp.Lexicographic.{bytes_decides, nat_list_eq_equiv}
 use Rattle.std.specs.List.{list_any, AllByRecursion, IsDistinct}
 use Rattle.std.specs.List.Sorted.{IsPermutation, IsSorted}
-use Rattle.std.proofs.lemmas.Bool.{cases_Bool}
+use Rattle.std.proofs.lemmas.Bool.{cases_Bool, or_parts}
 use Rattle.std.proofs.lemmas.Cmp.{eq_by_cmp_equiv}
 use Rattle.std.proofs.lemmas.List.Elements.{All-from_recursion, recursion_from_All, All-weaker}
 use Rattle.std.proofs.lemmas.List.Sorted.{list_any-IsPermutation}
@@ -35,14 +34,10 @@ some test (item ∷ items) e =
     (λ n. let rest : 0 < count_by test items = some test items (rw n at e) in omega arith)
     (cases_Bool (test item))
 
-neither : (a b : Bool) → (a || b) ≡ false → (a ≡ false) × (b ≡ false)
-neither true b e = absurd (cc)
-neither false b e = (refl, e)
-
 zero_of : (test : List ℕ → Bool) (items : List (List ℕ)) → list_any test items ≡ false → count_by test items ≡ 0
 zero_of test [] e = refl
 zero_of test (item ∷ items) e =
-    let parts = neither (test item) (list_any test items) e in
+    let parts = or_parts (test item) (list_any test items) e in
     let head = count_cons test item items in
     let one : cond {A = ℕ} (test item) 1 0 ≡ 0 = rw parts.0 refl in
     let rest = zero_of test items parts.1 in
@@ -60,7 +55,7 @@ all_distinct P (item ∷ items) h = taken P (list_any (bytes_eq item) items) ite
 
 differ : (item : List ℕ) (items : List (List ℕ)) → list_any (bytes_eq item) items ≡ false → AllByRecursion (λ other. bytes_eq item other ≡ false) items
 differ item [] e = tt
-differ item (other ∷ items) e = let parts = neither (bytes_eq item other) (list_any (bytes_eq item) items) e in (parts.0, differ item items parts.1)
+differ item (other ∷ items) e = let parts = or_parts (bytes_eq item other) (list_any (bytes_eq item) items) e in (parts.0, differ item items parts.1)
 
 once_more : (b : Bool) (item : List ℕ) (rest : List (List ℕ)) → (b ≡ false → AllByRecursion (λ other. bytes_eq item other ≡ false) rest) → IsDistinct bytes_eq rest → IsDistinct bytes_eq (cond b rest (item ∷ rest))
 unfolding IsDistinct

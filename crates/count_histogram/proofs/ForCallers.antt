@@ -1,5 +1,5 @@
 -- What a caller needs to count one more item.
-use Rattle.std.proofs.Common.{arith, ◌≡◌, ℕ, ◌<◌, ◌^◌, List, length, bytes_eq}
+use Rattle.std.proofs.Common.{arith, ℕ, ◌<◌, ◌^◌, List, length, bytes_eq}
 use Rattle.std.proofs.lemmas.List.Sums.{count_by-le-length}
 use Rattle.count_histogram.specs.declared.row.Row.{Row}
 use Rattle.count_histogram.specs.Counts.{count_in, AreCounts}

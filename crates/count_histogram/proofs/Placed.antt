@@ -1,12 +1,12 @@
 -- Rows in order: each is ahead of all behind it, and the rows that are there say which list it is.
-use Rattle.std.proofs.Common.{arith, rules, ◌≡◌, refl, sym, ap, ◌∙◌, ℕ, ◌<◌, Bool, true, false, cond, not, ◌||◌, List, [], ◌∷◌, IsSorted, get_or}
+use Rattle.std.proofs.Common.{arith, ◌≡◌, refl, sym, ap, ◌∙◌, Bool, true, false, cond, not, ◌||◌, List, [], ◌∷◌, IsSorted, get_or}
 use Rattle.std.specs.Ordering.{is_lt, is_eq, eq_by_cmp, ordering_reverse}
 use Rattle.std.specs.declared.cmp.Ordering.{Ordering}
 use Rattle.std.specs.declared.cmp.Ordering.TheVariants.{Less, Equal, Greater}
-use Rattle.std.specs.Cmp.{IsTotalOrder, IsStrictWeakOrder}
+use Rattle.std.specs.Cmp.{IsStrictWeakOrder}
 use Rattle.std.specs.List.{list_any, AllByRecursion, IsDistinct}
 use Rattle.std.specs.List.Sorted.{IsStrictlySortedBy}
-use Rattle.std.specs.BTreeSet.{BTreeSet}
+use Rattle.std.proofs.lemmas.Bool.{or_parts}
 use Rattle.std.proofs.lemmas.Map.Lookups.{btree_set_from_contains}
 use Rattle.std.proofs.lemmas.Map.Keys.{IsDistinct-from_apart, apart_from_distinct}
 use Rattle.std.proofs.lemmas.List.Sorted.{sorted_far, ranks_by}
@@ -66,15 +66,11 @@ unfolding IsStrictlySortedBy
 sorted_either row first rows rest true is apart h s r = let e = less (order row first) is in ((e, behind row first rows e s.0), s)
 sorted_either row first rows rest false is apart h s r = (h (total.antisymm first row ∙ turned (order row first) is apart), r)
 
-neither : (a b : Bool) → (a || b) ≡ false → (a ≡ false) × (b ≡ false)
-neither true b e = absurd (cc)
-neither false b e = (refl, e)
-
 sorted_placed : (row : Row) (rows : List Row) → list_any (eq_by_cmp order row) rows ≡ false → IsStrictlySortedBy order rows → IsStrictlySortedBy order (placed row rows)
 unfolding IsStrictlySortedBy
 sorted_placed row [] apart s = (tt, tt)
 sorted_placed row (first ∷ rows) apart s =
-    let parts = neither (eq_by_cmp order row first) (list_any (eq_by_cmp order row) rows) apart in
+    let parts = or_parts (eq_by_cmp order row first) (list_any (eq_by_cmp order row) rows) apart in
     sorted_either row first rows (placed row rows) (is_ahead row first) (sym (ahead row first)) parts.0
     (λ e. all_placed (λ r. order first r ≡ Less) row rows e s.0) s (sorted_placed row rows parts.1 s.1)
 

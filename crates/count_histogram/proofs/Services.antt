@@ -1,9 +1,10 @@
 -- The service of a URL is a front of it.
-use Rattle.std.proofs.Common.{arith, ◌≡◌, refl, sym, ap, ◌∙◌, ℕ, ◌+◌, ◌<◌, ◌≤◌, Bool, true, false, cond, not, nat_lt, ◌&&◌, ◌==◌, List, [], ◌∷◌, ◌++◌, Some, None, length, take, drop, map, position}
+use Rattle.std.proofs.Common.{arith, ◌≡◌, refl, ℕ, ◌+◌, ◌≤◌, Bool, true, cond, not, nat_lt, ◌==◌, List, [], ◌∷◌, ◌++◌, Some, None, length, take, drop, map, position}
 use Rattle.std.specs.Option.{unwrap_or}
 use Rattle.std.specs.List.{position_or_len}
 use Rattle.std.specs.Char.{to_ascii_lowercase}
 use Rattle.std.specs.Str.{str_to_ascii_lowercase}
+use Rattle.std.proofs.lemmas.Bool.{and_from, and_parts, eq-eqb, eqb-true}
 use Rattle.std.proofs.lemmas.Bool.Decides.{nat_tests}
 use Rattle.std.proofs.lemmas.List.{take-append-drop, drop-take, take-take}
 use Rattle.std.proofs.lemmas.List.Sums.{prefix_len-le-length}
@@ -24,20 +25,6 @@ picked m n within = grind (arith, nat_tests)
 pub or_length : (p : ℕ → Bool) (xs : List ℕ) → unwrap_or (position p xs) (length xs) ≡ position_or_len p xs
 or_length p xs = picked (position_or_len p xs) (length xs) (prefix_len-le-length (λ x. not (p x)) xs)
 
-both : (p q : Bool) → p ≡ true → q ≡ true → (p && q) ≡ true
-both true q e f = f
-both false q e f = e
-
-parts : (p q : Bool) → (p && q) ≡ true → (p ≡ true) × (q ≡ true)
-parts true q e = (refl, e)
-parts false q e = absurd (cc)
-
-equal : (m n : ℕ) → m ≡ n → (m == n) ≡ true
-equal m n e = grind arith
-
-same : (m n : ℕ) → (m == n) ≡ true → m ≡ n
-same m n e = grind arith
-
 -- a word in lower case is there where the bytes in its place are, in lower case, the word
 pub starts : (word bytes : List ℕ) → str_to_ascii_lowercase word ≡ word → length word ≤ length bytes → str_to_ascii_lowercase (take (length word) bytes) ≡ word → starts_caseless word bytes ≡ true
 starts [] bytes lower within is = refl
@@ -46,15 +33,15 @@ starts (l ∷ word) (b ∷ bytes) lower within is =
     let each : ◌≡◌ {A = List ℕ} (to_ascii_lowercase b ∷ map to_ascii_lowercase (take (length word) bytes)) (l ∷ word) = is in
     let lows : ◌≡◌ {A = List ℕ} (to_ascii_lowercase l ∷ map to_ascii_lowercase word) (l ∷ word) = lower in
     let head : to_ascii_lowercase b ≡ l = cc in
-    both (to_ascii_lowercase b == l) (starts_caseless word bytes) (equal (to_ascii_lowercase b) l head) (starts word bytes (cc) (omega arith) (cc))
+    and_from (to_ascii_lowercase b == l) (starts_caseless word bytes) (eq-eqb (to_ascii_lowercase b) l head) (starts word bytes (cc) (omega arith) (cc))
 
 pub started : (word bytes : List ℕ) → starts_caseless word bytes ≡ true → (str_to_ascii_lowercase (take (length word) bytes) ≡ word) × (length word ≤ length bytes)
 started [] bytes h = (refl, omega arith)
 started (l ∷ word) [] h = absurd (cc)
 started (l ∷ word) (b ∷ bytes) h =
-    let halves = parts (to_ascii_lowercase b == l) (starts_caseless word bytes) h in
+    let halves = and_parts (to_ascii_lowercase b == l) (starts_caseless word bytes) h in
     let rest = started word bytes halves.1 in
-    let head = same (to_ascii_lowercase b) l halves.0 in
+    let head = eqb-true (to_ascii_lowercase b) l halves.0 in
     let tail = rest.0 in
     let longer = rest.1 in
     ((λ i. head i ∷ tail i), omega arith)

@@ -1,12 +1,12 @@
 -- Rows of which each item has one: which rows are there is what the counts say.
-use Rattle.std.proofs.Common.{arith, ◌≡◌, refl, sym, ap, subst, ◌∙◌, ℕ, ◌<◌, Bool, true, false, cond, ◌&&◌, ◌||◌, ◌==◌, List, [], ◌∷◌, bytes_eq, All, map}
+use Rattle.std.proofs.Common.{arith, ◌≡◌, refl, sym, subst, ◌∙◌, ℕ, ◌<◌, true, false, ◌==◌, List, [], ◌∷◌, bytes_eq, All, map}
 use Rattle.std.specs.Ordering.{eq_by_cmp, is_eq}
 use Rattle.std.specs.Cmp.{both_ways}
 use Rattle.std.specs.Cmp.Lexicographic.{bytes_decides, nat_list_eq_equiv}
 use Rattle.std.specs.List.{list_any, AllByRecursion, IsDistinct}
 use Rattle.std.specs.declared.cmp.Ordering.{Ordering}
 use Rattle.std.specs.declared.cmp.Ordering.TheVariants.{Less, Equal, Greater}
-use Rattle.std.proofs.lemmas.Bool.{cases_Bool}
+use Rattle.std.proofs.lemmas.Bool.{cases_Bool, and_from, and_right, eq-eqb, or_right}
 use Rattle.std.proofs.lemmas.List.Elements.{All-head, All-tail}
 use Rattle.count_histogram.specs.declared.row.Row.{Row}
 use Rattle.count_histogram.specs.Counts.{count_in, IsTally}
@@ -45,30 +45,15 @@ there (first ∷ rows) once added row e =
     (cases_Bool (bytes_eq row.item first.item)))
     (cases_Bool (eq_by_cmp order row first))
 
-equal_numbers : (m n : ℕ) → m ≡ n → (m == n) ≡ true
-equal_numbers m n e = grind arith
-
-both : (p q : Bool) → p ≡ true → q ≡ true → (p && q) ≡ true
-both true q e f = f
-both false q e f = e
-
-never : (p q : Bool) → q ≡ false → (p && q) ≡ false
-never true q e = e
-never false q e = refl
-
-or_true : (b : Bool) → (b || true) ≡ true
-or_true true = refl
-or_true false = refl
-
 -- a row with the count of its item, which is positive, is there
 here : (rows : List Row) (row : Row) → count_in rows row.item ≡ row.count → 0 < row.count → list_any (eq_by_cmp order row) rows ≡ true
 here [] row e positive = absurd (omega arith)
 here (first ∷ rows) row e positive =
     ⊎_elim
     (λ y. let count : first.count ≡ row.count = rw y at e in
-    let tied : eq_by_cmp order row first ≡ true = ties row first ∙ both (first.count == row.count) (bytes_eq row.item first.item) (equal_numbers first.count row.count count) y in
+    let tied : eq_by_cmp order row first ≡ true = ties row first ∙ and_from (first.count == row.count) (bytes_eq row.item first.item) (eq-eqb first.count row.count count) y in
     rw tied refl)
-    (λ apart. rw (here rows row (rw apart at e) positive) (or_true (eq_by_cmp order row first)))
+    (λ apart. or_right (eq_by_cmp order row first) (list_any (eq_by_cmp order row) rows) (here rows row (rw apart at e) positive))
     (cases_Bool (bytes_eq row.item first.item))
 
 -- two such lists of rows with the same counts have the same rows
@@ -80,7 +65,7 @@ agree xs ys tx ty counts row = both_ways _ _
 -- rows with different items don't tie
 apart_rows : (row : Row) (rows : List Row) → AllByRecursion (λ other. bytes_eq row.item other ≡ false) (items_in rows) → AllByRecursion (λ r. eq_by_cmp order row r ≡ false) rows
 apart_rows row [] h = tt
-apart_rows row (r ∷ rows) h = (ties row r ∙ never (r.count == row.count) (bytes_eq row.item r.item) h.0, apart_rows row rows h.1)
+apart_rows row (r ∷ rows) h = (ties row r ∙ and_right (r.count == row.count) (bytes_eq row.item r.item) h.0, apart_rows row rows h.1)
 
 pub untied : (rows : List Row) → IsDistinct bytes_eq (items_in rows) → IsDistinct (eq_by_cmp order) rows
 unfolding IsDistinct

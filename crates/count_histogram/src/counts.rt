@@ -1,4 +1,4 @@
-// How often each item was added.
+// How often each item was added, by a map from items to their counts.
 ghost use Rattle.std.specs.Prelude.{◌≡◌, ℕ, List, [], ◌∷◌, ◌++◌, ◌<◌, ◌^◌, IfOk, OnOk, OnErr};
 ghost use Rattle.std.specs.Ordering.{is_lt};
 ghost use Rattle.count_histogram.specs.Histogram.{is_ahead, rows_of};
@@ -12,7 +12,8 @@ use std::collections::HashMap;
 use std::hash::{BuildHasherDefault, FoldHasher};
 use std::marker::Model;
 
-/// How often each item was added.
+/// How often each item was added. It keeps one copy of each item, and contracts see it as the rows of the
+/// items in no certain order.
 #[derive(Drop)]
 pub struct Counts {
     alloc: Global,
@@ -43,7 +44,10 @@ impl Counts {
         }
     }
 
-    /// Counts an item.
+    /// Counts an item once more. Counts of the items of a list become those of the list with this item at
+    /// its end. It asks for fewer than 2^63 copies of the item so far, as there are where fewer than 2^63 items
+    /// were added. The one refusal is want of memory, which leaves the counts as they were, and an item that
+    /// was added before takes no memory.
     pub fn add(&mut self, item: &[u8]) -> Result<(), NoMemory>
         requires { count_in self.old item.now < 2 ^ 63 }
         ensures added { OnOk result ((items : List (List ℕ)) → AreCounts self.old items → AreCounts self.new (items ++ item.now ∷ [])) }
@@ -58,7 +62,8 @@ impl Counts {
         Ok(())
     }
 
-    /// The rows of the items that were added.
+    /// The rows of the items that were added: one for each item, the largest count first, and of equal
+    /// counts the smallest bytes first. The one refusal is want of memory.
     pub fn rows(&self) -> Result<Vec<Row>, NoMemory>
         ensures { IfOk result (λ rows. (items : List (List ℕ)) → AreCounts self.now items → rows.items ≡ rows_of items) }
     {
@@ -67,7 +72,7 @@ impl Counts {
         Ok(rows)
     }
 
-    // The rows in no order.
+    // The rows in no certain order.
     fn copied(&self) -> Result<Vec<Row>, NoMemory>
         ensures same { IfOk result (λ rows. rows.items ≡ self.now) }
         ensures tally { OnOk result (IsTally self.now) }

@@ -38,7 +38,7 @@ impl Rule {
         }
     }
 
-    /// The number of the histogram.
+    /// The number of its histogram's file.
     pub fn file(self) -> u32
         ensures { result ≡ file_of self }
     {

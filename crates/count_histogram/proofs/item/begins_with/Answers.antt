@@ -1,11 +1,9 @@
-use Rattle.std.proofs.Common.{arith, rules, ◌≡◌, ap, sym, ◌∙◌, Bool, true, false}
+use Rattle.std.proofs.Common.{arith, ap, sym, ◌∙◌, false}
 use Rattle.std.specs.Cmp.{both_ways}
 use Rattle.std.specs.Str.{str_to_ascii_lowercase}
-use Rattle.std.proofs.lemmas.Bool.{cases_Bool}
 use Rattle.scan_url.specs.Url.{starts_caseless}
 use Rattle.count_histogram.proofs.Services.{starts, started}
 use Rattle.count_histogram.proofs.item.begins_with.Goals as goal
-use mathlib.Core.Logic.{⊎_elim}
 
 pub returns-then-bytes-word-clause-begins : goal.returns-then-bytes-word-clause-begins
 returns-then-bytes-word-clause-begins c =

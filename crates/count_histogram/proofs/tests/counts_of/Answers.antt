@@ -1,4 +1,4 @@
-use Rattle.std.proofs.Common.{arith, [], ◌∷◌, ◌++◌, ℕ, List}
+use Rattle.std.proofs.Common.{arith, [], ◌∷◌, ◌++◌}
 use Rattle.std.proofs.lemmas.List.{length_push}
 use Rattle.count_histogram.proofs.tests.counts_of.Goals as goal
 

@@ -1,8 +1,7 @@
-use Rattle.std.proofs.Common.{rules, ◌≡◌, ◌+◌, ◌<◌, Some, None, arith, sym, ap, refl, ◌∙◌, ℕ, Vec, Global, bytes_eq}
+use Rattle.std.proofs.Common.{rules, ◌≡◌, ◌+◌, ◌<◌, None, arith, sym, ap, refl, ◌∙◌, bytes_eq}
 use Rattle.std.specs.Option.{unwrap_or}
-use Rattle.std.specs.HashMap.{HashMap}
 use Rattle.std.proofs.lemmas.Map.Views.{All-values-set_value, All-values-PutsEntry}
-use Rattle.count_histogram.specs.Counts.{count_in, rows_kept, AreAdded}
+use Rattle.count_histogram.specs.Counts.{rows_kept, AreAdded}
 use Rattle.count_histogram.proofs.Adding.{counted, count_found, found}
 use Rattle.count_histogram.proofs.counts.Counts.add.Goals as goal
 

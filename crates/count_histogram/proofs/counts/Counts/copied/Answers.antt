@@ -1,4 +1,4 @@
-use Rattle.std.proofs.Common.{rules, ◌≡◌, subst, List}
+use Rattle.std.proofs.Common.{subst, List}
 use Rattle.count_histogram.specs.declared.row.Row.{Row}
 use Rattle.count_histogram.specs.Counts.{IsTally}
 use Rattle.count_histogram.proofs.Kept.{tally}
