@@ -1,5 +1,5 @@
 // How often each item was added, by a map from items to their counts.
-ghost use Rattle.std.specs.Prelude.{◌≡◌, ℕ, List, [], ◌∷◌, ◌++◌, ◌<◌, ◌^◌, IfOk, OnOk, OnErr};
+ghost use Rattle.std.specs.Prelude.{◌≡◌, ℕ, List, [], ◌∷◌, ◌++◌, ◌<◌, ◌^◌, IfOk, IsOk, OnOk, OnErr};
 ghost use Rattle.std.specs.Ordering.{is_lt};
 ghost use Rattle.count_histogram.specs.Histogram.{is_ahead, rows_of};
 ghost use Rattle.count_histogram.specs.Counts.{count_in, AreCounts, IsTally};
@@ -46,12 +46,13 @@ impl Counts {
 
     /// Counts an item once more. Counts of the items of a list become those of the list with this item at
     /// its end. It asks for fewer than 2^63 copies of the item so far, as there are where fewer than 2^63 items
-    /// were added. The one refusal is want of memory, which leaves the counts as they were, and an item that
-    /// was added before takes no memory.
+    /// were added. The one refusal is want of memory, which leaves the counts as they were. An item that was
+    /// added before takes no memory, and is never refused.
     pub fn add(&mut self, item: &[u8]) -> Result<(), NoMemory>
         requires { count_in self.old item.now < 2 ^ 63 }
         ensures added { OnOk result ((items : List (List ℕ)) → AreCounts self.old items → AreCounts self.new (items ++ item.now ∷ [])) }
         ensures same { OnErr result (self.new ≡ self.old) }
+        ensures known { 0 < count_in self.old item.now → IsOk result }
     {
         if let Some(count) = self.counts.get_mut(item) {
             *count += 1;

@@ -41,3 +41,18 @@ returns-clause-added c =
     let u = c.in_ok-insert.ensures.updates in
     counted c.args.self.now c.args.item.now c.in_ok-key.key.items c.get_mut.follows.lender-at-none.entries c.insert.new.self.entries 1
     (ap (λ m. rows_kept m.entries) same ∙ c.self.view_is) c.in_ok-key.ensures.items (omega arith) u.1 u.3
+
+-- an item that the look-up didn't find has the count 0, so no refusal is for one that was added
+pub returns-in_err-key-clause-known : goal.returns-in_err-key-clause-known
+returns-in_err-key-clause-known c added =
+    let none = rw c.in_default.is at c.get_mut.ensures.value in
+    let count = ap (λ o. unwrap_or o 0) none in
+    let was = count_found c.args.self.now c.args.item.now c.self.inside.counts.entries c.self.view_is in
+    absurd (omega arith)
+
+pub returns-in_err-insert-clause-known : goal.returns-in_err-insert-clause-known
+returns-in_err-insert-clause-known c added =
+    let none = rw c.in_default.is at c.get_mut.ensures.value in
+    let count = ap (λ o. unwrap_or o 0) none in
+    let was = count_found c.args.self.now c.args.item.now c.self.inside.counts.entries c.self.view_is in
+    absurd (omega arith)
