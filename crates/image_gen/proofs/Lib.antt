@@ -1,0 +1,5 @@
+pub mod Appended
+pub mod Filled
+mod Rows
+pub mod Sizes
+pub mod Steps

@@ -1,0 +1,4 @@
+pub mod Blocks
+pub mod Image
+pub mod Packet
+pub mod Words
