@@ -155,27 +155,87 @@ const UNREAD: &str = "# triage feature file, format 1
 60\tunread\t
 ";
 
-// Files 1 to 6 have these texts.
-fn files_are(disk: &MemDisk, texts: &[&str; 6]) -> bool {
-    for number in 1..7 {
-        if disk.file(number) != texts[number as usize - 1].as_bytes() {
-            return false;
-        }
-    }
-    true
+const WORDS: &str = "# triage feature file, format 1
+# file: wordlist.txt
+# columns: path, feature, context
+60\tword\t
+";
+
+const ALERTS: &str = "# triage feature file, format 1
+# file: alerts.txt
+# columns: path, feature, context
+40\tftp://e\t<ftp://e\\x5C
+46\te\t//e\\x09
+50\t01:02:03:04:05:06\t
+60\tfind\t
+";
+
+const STOPPED_URLS: &str = "# triage feature file, format 1
+# file: url_stopped.txt
+# columns: path, feature, context
+20\thttp://c.d\thttp://c.d
+";
+
+const STOPPED_ADDRESSES: &str = "# triage feature file, format 1
+# file: ip_stopped.txt
+# columns: path, feature, context
+";
+
+// A file of the disk has this text.
+fn file_is(disk: &MemDisk, number: u32, text: &str) -> bool {
+    number < 64 && disk.file(number) == text.as_bytes()
 }
 
-// Scanners, the texts of the files 1 to 6, and how many calls are made.
-const REPORTS: &[(u16, [&str; 6], usize)] = &[
+// The files of these numbers have these texts.
+fn files_are(disk: &MemDisk, texts: &[(u32, &str)]) -> bool {
+    texts.iter().all(|(number, text)| file_is(disk, *number, text))
+}
+
+// Scanners, files and their texts, and how many calls are made.
+const REPORTS: &[(u16, &[(u32, &str)], usize)] = &[
     (
         31,
-        [URLS, DOMAINS, ADDRESSES, HARDWARE, EXECUTABLES, UNREAD],
-        19,
+        &[
+            (1, URLS),
+            (2, DOMAINS),
+            (3, ADDRESSES),
+            (4, HARDWARE),
+            (5, EXECUTABLES),
+            (6, UNREAD),
+            (8, ""),
+            (9, ALERTS),
+            (11, STOPPED_URLS),
+            (13, STOPPED_ADDRESSES),
+        ],
+        40,
     ),
-    (3, [URLS, DOMAINS, "third", "", "", ""], 7),
-    (1, [URLS, "second", "third", "", "", ""], 4),
-    (20, ["first", "second", ADDRESSES, HARDWARE, "", UNREAD], 10),
-    (0, ["first", "second", "third", "", "", ""], 1),
+    (
+        1,
+        &[
+            (1, URLS),
+            (2, "second"),
+            (3, "third"),
+            (9, ALERTS),
+            (11, STOPPED_URLS),
+            (12, ""),
+        ],
+        10,
+    ),
+    (
+        20,
+        &[
+            (1, "first"),
+            (2, "second"),
+            (3, ADDRESSES),
+            (4, HARDWARE),
+            (6, UNREAD),
+            (11, ""),
+            (13, STOPPED_ADDRESSES),
+        ],
+        22,
+    ),
+    (64, &[(1, "first"), (8, WORDS), (9, ALERTS)], 10),
+    (0, &[(1, "first"), (8, ""), (9, ALERTS), (11, "")], 4),
 ];
 
 // The report by the scanners has these texts, and is written by so many calls.
@@ -183,7 +243,7 @@ fn writes(
     alloc: Global,
     items: &[Classed],
     scanners: u16,
-    texts: &[&str; 6],
+    texts: &[(u32, &str)],
     calls: usize,
 ) -> Result<bool, DiskFault> {
     let (disk, result) = published(alloc, items, scanners, &[])?;
@@ -205,6 +265,9 @@ const AHEAD: &[DiskCall] = &[
     DiskCall::Mount,
     DiskCall::Cut { file: 1, to: 0 },
     DiskCall::Cut { file: 2, to: 0 },
+    DiskCall::Cut { file: 9, to: 0 },
+    DiskCall::Cut { file: 11, to: 0 },
+    DiskCall::Cut { file: 12, to: 0 },
 ];
 
 const BEHIND: &[DiskCall] = &[
@@ -213,8 +276,26 @@ const BEHIND: &[DiskCall] = &[
         at: 0,
         bytes: 85,
     },
+    DiskCall::Write {
+        file: 9,
+        at: 0,
+        bytes: 85,
+    },
+    DiskCall::Write {
+        file: 11,
+        at: 0,
+        bytes: 90,
+    },
+    DiskCall::Write {
+        file: 12,
+        at: 0,
+        bytes: 93,
+    },
     DiskCall::Sync { file: 1 },
     DiskCall::Sync { file: 2 },
+    DiskCall::Sync { file: 9 },
+    DiskCall::Sync { file: 11 },
+    DiskCall::Sync { file: 12 },
 ];
 
 // The calls write to file 1 at these places, so many bytes each.
@@ -326,7 +407,7 @@ fn ends_at(alloc: Global, items: &[Classed], call: u64) -> Result<bool, DiskFaul
 #[test]
 fn a_failing_call_ends_the_report(rt: HostRuntime) -> Result<(), Fail> {
     let items = features(rt.alloc())?;
-    for call in 1..7 {
+    for call in 1..16 {
         assert!(rt; ends_at(rt.alloc(), items.as_slice(), call)?, "at {call}");
     }
     Ok(())

@@ -75,6 +75,7 @@ no_size (Ok command) bytes is = of_command command is
     of_scan true log is = cc
     of_scan false true is = cc
     of_scan false false is = cc
+
     of_command : (command : Command) → unbuilt_in command ≡ Some (Size bytes) → ⊥
     of_command (GenerateCommand settings seed size) is = cc
     of_command (ScanCommand settings parts place) is = of_scan (nat_lt 1 (length parts)) settings.with_log is

@@ -3,4 +3,6 @@ pub mod Ends
 pub mod FirstSource
 pub mod Grown
 pub mod Readings
+mod ReportRows
+mod TextRows
 pub mod WholeReport

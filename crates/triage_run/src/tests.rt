@@ -4,7 +4,7 @@ ghost use Rattle.host_source.specs.MemSource.{mem_slots};
 ghost use Rattle.host_disk.specs.MemDisk.{mem_mounted};
 
 mod calls;
-mod options;
+mod lists;
 mod patterns;
 mod refusals;
 mod reports;
@@ -34,28 +34,30 @@ fn texts(alloc: Global, words: &[&str]) -> Result<Vec<String>, NoMemory>
 }
 
 // How a call over objects in memory ends.
-type MemOutcome<K = WordKit> = Outcome<MemSource, MemDisk, K, MemSink>;
+type MemOutcome<K = WordKit> = Outcome<MemSource, MemSource, MemDisk, K, MemSink>;
 
-// A call over a source, a disk, a kit and a sink in memory.
+// A call over a source, a source of lists, a disk, a kit and a sink in memory.
 fn call_with<K: Kit + Drop>(
     alloc: Global,
     words: &[&str],
     source: MemSource,
+    lists: MemSource,
     disk: MemDisk,
     kit: K,
     sink: MemSink,
 ) -> Result<MemOutcome<K>, NoMemory>
     requires detached { IsDetached (mem_slots source) }
+    requires lists { IsDetached (mem_slots lists) }
     requires unmounted { mem_mounted disk ≡ false }
     requires asked { (index : ℕ) (text : List ℕ) → IsTrue (K.may_build kit index text) }
 {
     let words = texts(alloc, words)?;
     let mut sources = Vec::new(alloc);
     sources.push(source)?;
-    Ok(triage(alloc, words.as_slice(), sources, disk, kit, sink))
+    Ok(triage(alloc, words.as_slice(), sources, lists, disk, kit, sink))
 }
 
-// The same with a kit that refuses nothing.
+// The same with a kit that refuses nothing, and without lists.
 fn call(
     alloc: Global,
     words: &[&str],
@@ -66,14 +68,15 @@ fn call(
     requires detached { IsDetached (mem_slots source) }
     requires unmounted { mem_mounted disk ≡ false }
 {
-    call_with(alloc, words, source, disk, WordKit::make(0), sink)
+    let lists = MemSource::make(alloc);
+    call_with(alloc, words, source, lists, disk, WordKit::make(0), sink)
 }
 
 // A call over two sources in memory that hold nothing.
 fn call_with_two(
     alloc: Global,
     words: &[&str],
-) -> Result<Outcome<MemSource, SureDisk, WordKit, MemSink>, NoMemory> {
+) -> Result<Outcome<MemSource, MemSource, SureDisk, WordKit, MemSink>, NoMemory> {
     let words = texts(alloc, words)?;
     let mut sources = Vec::new(alloc);
     sources.push(MemSource::make(alloc))?;
@@ -83,7 +86,8 @@ fn call_with_two(
         WordKit::make(0),
         MemSink::make(alloc),
     );
-    Ok(triage(alloc, words.as_slice(), sources, disk, kit, sink))
+    let lists = MemSource::make(alloc);
+    Ok(triage(alloc, words.as_slice(), sources, lists, disk, kit, sink))
 }
 
 // A call over objects that hold nothing.

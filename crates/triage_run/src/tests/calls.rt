@@ -3,13 +3,15 @@ use super::reports::holds;
 use super::{MemOutcome, scan, scan_failing};
 use crate::Status;
 use byte_kit::NoMemory;
+use feature_file::is_written;
 use host_disk::{DiskCall, MemDisk};
 use host_source::{MemSource, SourceCall};
 use report_publish::FILES_BUILT;
+use scan_settings::SCANNERS;
 use std::alloc::Global;
 use std::test::Fail;
 
-// The call ended with this status, after these calls of every source and of the disk.
+// The call ended with this status, after these calls of every source and of the disk, and none of the lists.
 pub(super) fn ended<K>(
     outcome: &MemOutcome<K>,
     status: Status,
@@ -18,6 +20,7 @@ pub(super) fn ended<K>(
 ) -> bool {
     outcome.status == status
         && made(outcome.sources.as_slice(), read)
+        && outcome.lists.calls().is_empty()
         && outcome.disk.calls() == written
 }
 
@@ -42,22 +45,20 @@ pub(super) const READ: SourceCall = SourceCall::Read {
 
 // Adds a cut to nothing of each file of a report.
 fn push_cuts(calls: &mut Vec<DiskCall>) -> Result<(), NoMemory> {
-    for file in &FILES_BUILT {
-        calls.push(DiskCall::Cut { file: *file, to: 0 })?;
+    for file in FILES_BUILT {
+        if is_written(file, SCANNERS) {
+            calls.push(DiskCall::Cut { file, to: 0 })?;
+        }
     }
     Ok(())
 }
 
 // Adds a write of the whole of each file of the report that the disk holds.
 fn push_writes(disk: &MemDisk, calls: &mut Vec<DiskCall>) -> Result<(), NoMemory> {
-    for file in &FILES_BUILT {
-        if *file < 64 {
-            let bytes = disk.file(*file).len() as u64;
-            calls.push(DiskCall::Write {
-                file: *file,
-                at: 0,
-                bytes,
-            })?;
+    for file in FILES_BUILT {
+        if is_written(file, SCANNERS) && file < 64 {
+            let bytes = disk.file(file).len() as u64;
+            calls.push(DiskCall::Write { file, at: 0, bytes })?;
         }
     }
     Ok(())
@@ -65,8 +66,10 @@ fn push_writes(disk: &MemDisk, calls: &mut Vec<DiskCall>) -> Result<(), NoMemory
 
 // Adds a sync of each file of a report.
 fn push_syncs(calls: &mut Vec<DiskCall>) -> Result<(), NoMemory> {
-    for file in &FILES_BUILT {
-        calls.push(DiskCall::Sync { file: *file })?;
+    for file in FILES_BUILT {
+        if is_written(file, SCANNERS) {
+            calls.push(DiskCall::Sync { file })?;
+        }
     }
     Ok(())
 }

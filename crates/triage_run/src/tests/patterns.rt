@@ -4,7 +4,7 @@ use super::{MemOutcome, call_with, holding};
 use crate::Status;
 use byte_kit::NoMemory;
 use host_disk::MemDisk;
-use host_source::MemSink;
+use host_source::{MemSink, MemSource};
 use pattern_kit::{Kit, RegexKit, WordKit};
 use std::alloc::Global;
 use std::test::Fail;
@@ -19,7 +19,8 @@ const FIND_HEADER: &str =
 fn scan_by(alloc: Global, words: &[&str], image: &[u8]) -> Result<MemOutcome<RegexKit>, NoMemory> {
     let source = holding(alloc, image)?;
     let (disk, sink) = (MemDisk::make(alloc), MemSink::make(alloc));
-    call_with(alloc, words, source, disk, RegexKit::make(), sink)
+    let lists = MemSource::make(alloc);
+    call_with(alloc, words, source, lists, disk, RegexKit::make(), sink)
 }
 
 // The scan is done, and `find.txt` has these lines.
@@ -121,7 +122,9 @@ fn scan_refusing(alloc: Global, refused: u8) -> Result<MemOutcome, NoMemory> {
     ];
     let source = holding(alloc, b"dcba")?;
     let (disk, sink) = (MemDisk::make(alloc), MemSink::make(alloc));
-    call_with(alloc, &words, source, disk, WordKit::make(refused), sink)
+    let lists = MemSource::make(alloc);
+    let kit = WordKit::make(refused);
+    call_with(alloc, &words, source, lists, disk, kit, sink)
 }
 
 // The bits of the builds that are refused, and the pattern that is named.

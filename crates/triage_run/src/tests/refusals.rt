@@ -1,7 +1,7 @@
 // Which calls are refused, with what status and what line.
 use super::calls::{ATTACH, READ, ended};
 use super::{MemOutcome, call_over_nothing, call_with_two, scan_failing};
-use crate::{PLACES_MOST, ReadPlace, Status, Unbuilt, Why};
+use crate::{List, ReadPlace, Status, Unbuilt, Why};
 use byte_kit::NoMemory;
 use host_disk::DiskCall;
 use host_source::SourceCall;
@@ -38,7 +38,7 @@ fn of_words(status: Status, line: &'static str) -> Refusal {
 }
 
 // The words are refused so, ahead of all calls, and this line is put.
-pub(super) fn refuses(
+fn refuses(
     alloc: Global,
     words: &[&str],
     status: Status,
@@ -58,64 +58,34 @@ const BAD_WORDS: &[(&[&str], u32, Why, &str)] = &[
         "usage: word 0: unknown command\n",
     ),
     (
-        &["--help"],
-        0,
-        Why::UnknownCommand,
-        "usage: word 0: unknown command\n",
-    ),
-    (
-        &["scan"],
-        1,
-        Why::PlaceMissing,
-        "usage: word 1: place missing\n",
-    ),
-    (
         &["scan", "i"],
         2,
         Why::PlaceMissing,
         "usage: word 2: place missing\n",
     ),
     (
-        &["scan", "-x", "i", "o"],
-        1,
-        Why::UnknownOption,
-        "usage: word 1: unknown option\n",
-    ),
-    (
         &["scan", "--page", "511", "i", "o"],
+        2,
+        Why::BadNumber,
+        "usage: word 2: bad number\n",
+    ),
+    (
+        &["scan", "-e", "phone", "i", "o"],
+        2,
+        Why::UnknownScanner,
+        "usage: word 2: unknown scanner\n",
+    ),
+    (
+        &["scan", "--word-min", "9", "--word-max", "8", "i", "o"],
+        7,
+        Why::WordBounds,
+        "usage: word 7: word bounds crossed\n",
+    ),
+    (
+        &["generate", "--stop", "s", "7", "0"],
         1,
         Why::UnknownOption,
         "usage: word 1: unknown option\n",
-    ),
-    (
-        &["scan", "--find", "a", "-x", "i", "o"],
-        3,
-        Why::UnknownOption,
-        "usage: word 3: unknown option\n",
-    ),
-    (
-        &["scan", "--find"],
-        2,
-        Why::ValueMissing,
-        "usage: word 2: value missing\n",
-    ),
-    (
-        &["scan", "--find", "a", "--pattern"],
-        4,
-        Why::ValueMissing,
-        "usage: word 4: value missing\n",
-    ),
-    (
-        &["scan", "--find", "", "i", "o"],
-        2,
-        Why::BadText,
-        "usage: word 2: bad text\n",
-    ),
-    (
-        &["scan", "--pattern", "a", "i"],
-        4,
-        Why::PlaceMissing,
-        "usage: word 4: place missing\n",
     ),
 ];
 
@@ -131,34 +101,34 @@ fn words_are_judged_from_left_to_right(rt: HostRuntime) -> Result<(), Fail> {
     Ok(())
 }
 
-// So many words, each of them `scan`, are refused so.
-fn refuses_many(
-    alloc: Global,
-    count: usize,
-    status: Status,
-    line: &'static str,
-) -> Result<bool, NoMemory> {
-    let mut words = Vec::new(alloc);
-    for _ in 0..count {
-        words.push("scan")?;
+// Words of a form that isn't built, the form, and the line.
+const UNBUILT: &[(&[&str], Unbuilt, &str)] = &[
+    (
+        &["generate", "--log", "7", "0"],
+        Unbuilt::Generate,
+        "not yet: generate\n",
+    ),
+    (
+        &["scan", "--log", "a", "b", "o"],
+        Unbuilt::Parts,
+        "not yet: parts\n",
+    ),
+    (
+        &["scan", "--stop", "s", "--log", "i", "o"],
+        Unbuilt::Log,
+        "not yet: log\n",
+    ),
+];
+
+#[test]
+fn a_form_that_is_not_built_is_refused(rt: HostRuntime) -> Result<(), Fail> {
+    for (words, what, line) in UNBUILT {
+        let what = *what;
+        assert!(rt;
+            refuses(rt.alloc(), words, Status::NotYet { what }, line)?,
+            "not {line}"
+        );
     }
-    refuses(alloc, words.as_slice(), status, line)
-}
-
-#[test]
-fn a_scan_has_at_most_65_place_words(rt: HostRuntime) -> Result<(), Fail> {
-    let why = Why::TooMany;
-    let status = Status::Usage { word: 66, why };
-    let line = "usage: word 66: too many\n";
-    assert!(rt; refuses_many(rt.alloc(), PLACES_MOST + 2, status, line)?);
-    Ok(())
-}
-
-#[test]
-fn a_scan_of_64_parts_is_not_built(rt: HostRuntime) -> Result<(), Fail> {
-    let what = Unbuilt::Parts;
-    let status = Status::NotYet { what };
-    assert!(rt; refuses_many(rt.alloc(), PLACES_MOST + 1, status, "not yet: parts\n")?);
     Ok(())
 }
 
@@ -171,6 +141,13 @@ const NUMBERS: &[(Status, u8)] = &[
             why: Why::NoCommand,
         },
         2,
+    ),
+    (
+        Status::ListTooLong {
+            list: List::Stop,
+            size: 1,
+        },
+        3,
     ),
     (
         Status::ReadFault {

@@ -30,9 +30,11 @@ pub returns-in_err-matchers-clause-scanned : goal.returns-in_err-matchers-clause
 returns-in_err-matchers-clause-scanned g c =
     let is : c.from_residual-in_err-matchers.result ≡ Err c.in_err-matchers.field-0.0 = search rules in
     let command = command_is (command_of (texts c.args.words.now)) c.in_ok-scan.scan c.in_ok-scan.ensures.scan c.in_ok-scan.ensures.built in
-    let names : lists_of (scan_of (command_of (texts c.args.words.now))) ≡ c.in_ok-scan.scan.lists = ap lists_of c.in_ok-scan.ensures.scan in
-    ([], subst (Scanned _) (sym is) (build_refused _ command.0 command.1 command.2 (rw names c.in_ok-entries.ensures.fits) (rw names c.in_ok-entries.ensures.listed)
-        (g.K.Kit.refusals c.args.kit.now) (g.K.Kit.refusals c.build_matchers.new.kit) c.in_err-matchers.field-0.0 c.in_err-matchers.ensures.cause refl refl))
+    let names : lists_of (scan_of (command_of (texts c.args.words.now))) ≡ c.in_ok-scan.scan.lists = ap lists_of c.in_ok-scan.ensures.scan in (
+      [],
+      subst (Scanned _) (sym is) (build_refused _ command.0 command.1 command.2 (rw names c.in_ok-entries.ensures.fits) (rw names c.in_ok-entries.ensures.listed)
+          (g.K.Kit.refusals c.args.kit.now) (g.K.Kit.refusals c.build_matchers.new.kit) c.in_err-matchers.field-0.0 c.in_err-matchers.ensures.cause refl refl),
+    )
 
 pub scan_part-requires-clause-few : goal.scan_part-requires-clause-few
 scan_part-requires-clause-few g c =
