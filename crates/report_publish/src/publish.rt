@@ -16,9 +16,7 @@ use host_disk::Disk;
 use std::alloc::Global;
 
 /// The numbers of the report files that are built, in the order in which they are cut and synced.
-pub const FILES_BUILT: [u32; 17] = [
-    1, 2, 3, 4, 5, 6, 7, 8, 9, 11, 12, 13, 14, 15, 16, 17, 18,
-];
+pub const FILES_BUILT: [u32; 17] = [1, 2, 3, 4, 5, 6, 7, 8, 9, 11, 12, 13, 14, 15, 16, 17, 18];
 
 /// Writes the report of the features to a mounted disk: each file that is built and wanted by the
 /// scanners (`files_for`) is cut, gets its text for the items (`file_text`: the header, and the lines in

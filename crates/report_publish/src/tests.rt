@@ -188,7 +188,9 @@ fn file_is(disk: &MemDisk, number: u32, text: &str) -> bool {
 
 // The files of these numbers have these texts.
 fn files_are(disk: &MemDisk, texts: &[(u32, &str)]) -> bool {
-    texts.iter().all(|(number, text)| file_is(disk, *number, text))
+    texts
+        .iter()
+        .all(|(number, text)| file_is(disk, *number, text))
 }
 
 // Scanners, files and their texts, and how many calls are made.

@@ -1,5 +1,6 @@
-//! The program `triage`. `main` makes a source over real files, a disk over a real folder, a kit that reads
-//! patterns as the `regex` crate does and a sink over standard output, calls `triage_run::triage`, and ends
+//! The program `triage`. `main` makes two sources over real files (of the image and of the lists), a disk over a
+//! real folder, a kit that reads patterns as the `regex` crate does and a sink over standard output, calls
+//! `triage_run::triage`, and ends
 //! with the number of its status. What the call puts is printed. Standard error has a line where a word is bad, and
 //! nothing else. A command line that asks for the help page or for the version makes no call.
 #![tactic(auto)]
@@ -105,7 +106,8 @@ fn outcome_of(rt: &HostRuntime, words: &[String]) -> Result<Status, NoMemory>
     let alloc = rt.alloc();
     let mut sources = Vec::new(alloc);
     sources.push(FileSource::make(alloc, rt.clone()?))?;
+    let lists = FileSource::make(alloc, rt.clone()?);
     let disk = FolderDisk::make(alloc, rt.clone()?);
-    let sink = StdoutSink::make(rt.stdout());
-    Ok(triage(alloc, words, sources, disk, RegexKit::make(), sink).status)
+    let (kit, sink) = (RegexKit::make(), StdoutSink::make(rt.stdout()));
+    Ok(triage(alloc, words, sources, lists, disk, kit, sink).status)
 }
