@@ -22,8 +22,9 @@ trap 'rm -rf "$scratch"' EXIT
 passed=0
 failed=0
 
-# The report files that are built.
-FILES='url.txt domain.txt ip.txt ether.txt exec.txt unread.txt find.txt'
+# The report files of a scan without options, histograms aside.
+FILES='url.txt domain.txt ip.txt ether.txt exec.txt unread.txt find.txt alerts.txt url_stopped.txt domain_stopped.txt
+    ip_stopped.txt ether_stopped.txt exec_stopped.txt unread_stopped.txt find_stopped.txt'
 
 # The header of a feature file.
 header() { printf '# triage feature file, format 1\n# file: %s\n# columns: path, feature, context\n' "$1"; }
@@ -238,7 +239,7 @@ judge 0 0 "$(options_in "$scratch/manual")\n"
 
 begin 'an option that is not known'
 both image "$SEE"
-ends_usage 'usage: word 1: unknown option\n' scan -x image out
+ends_usage 'usage: word 1: unknown option\n' scan -q image out
 
 begin 'a place that is missing'
 both image "$SEE"
@@ -281,6 +282,125 @@ begin 'a word that is no UTF-8'
 both image "$SEE"
 error='usage: a word is not UTF-8\n'
 ends 2 '' scan image $'out\xff'
+
+# ---- lists, scanners and other options
+
+begin 'a stop list and an alert list'
+both image "$SEE"
+both known.txt 'example.com\tsee http://example.com/a b\nhttp://example.com/a\tother\n'
+both wanted.txt '# a comment\r\n\nhttp://example.com/a\r\n'
+report out "$SEE_URL" ''
+printf "$SEE_URL" >> ../want/out/alerts.txt
+printf "$SEE_DOMAIN" >> ../want/out/domain_stopped.txt
+ends 0 'done pages=1 features=2\nurl.txt 1\nalerts.txt 1\ndomain_stopped.txt 1\n' scan --alert wanted.txt --stop known.txt image out
+
+begin 'the same entry in both lists'
+both image "$SEE"
+both list.txt 'example.com'
+report out "$SEE_URL" "$SEE_DOMAIN"
+printf "$SEE_DOMAIN" >> ../want/out/alerts.txt
+ends 0 'done pages=1 features=2\nurl.txt 1\ndomain.txt 1\nalerts.txt 1\n' scan --stop list.txt --alert list.txt image out
+
+begin 'a feature file of an earlier scan as stop list'
+both image "$SEE"
+report out '' "$SEE_DOMAIN"
+printf "$SEE_URL" >> ../want/out/url_stopped.txt
+mkdir ../want/old
+{ header url.txt; printf "$SEE_URL"; } > ../want/old/url.txt
+cp -r ../want/old .
+ends 0 'done pages=1 features=2\ndomain.txt 1\nurl_stopped.txt 1\n' scan --stop old/url.txt image out
+
+begin 'words, and a context of no byte'
+both image '  strawberry '
+report out '' ''
+header wordlist.txt > ../want/out/wordlist.txt
+header wordlist_stopped.txt > ../want/out/wordlist_stopped.txt
+printf '2\tstrawberry\tstrawberry\n' >> ../want/out/wordlist.txt
+ends 0 'done pages=1 features=1\nwordlist.txt 1\n' scan --context 0 -e word --word-min 10 --word-max 10 image out
+
+begin 'no scanner'
+both image "$SEE"
+mkdir ../want/out
+header alerts.txt > ../want/out/alerts.txt
+ends 0 'done pages=1 features=0\n' scan -x url -x domain -x net -x exec -x unread -x find image out
+
+begin 'a scanner off and on again, pages of 512 bytes'
+head -c 1025 /dev/zero > image
+cp image ../want/image
+report out '' ''
+ends 0 'done pages=3 features=0\n' scan -x url --page 512 -e url image out
+
+begin 'options that change nothing yet'
+both image "$SEE"
+report out "$SEE_URL" "$SEE_DOMAIN"
+ends 0 "$SEE_TEXT" scan --margin 131072 --workers 8 --spool-limit 1 --depth 0 image out
+
+begin 'a URL and a domain under a mask'
+both image '\222\216\216\212\300\325\325\231\324\236\325'
+report out '0-XOR250-0\thttp://c.d/\thttp://c.d/\n' '7-XOR250-0\tc.d\thttp://c.d/\n'
+ends 0 'done pages=1 features=2\nurl.txt 1\ndomain.txt 1\n' scan --xor 250 image out
+
+begin 'a stop list that is missing'
+both image "$SEE"
+ends 4 'read fault: stop list\n' scan --stop list.txt --alert list.txt image out
+begin 'an alert list that is a folder'
+both image "$SEE"
+both list.txt 'x'
+mkdir folder ../want/folder
+ends 4 'read fault: alert list\n' scan --stop list.txt --alert folder image out
+begin 'a stop list that is too long, and an alert list that is missing'
+both image "$SEE"
+head -c 16777217 /dev/zero > list.txt
+cp list.txt ../want/list.txt
+ends 3 'list too long: stop 16777217\n' scan --alert none.txt --stop list.txt image out
+begin 'a list at the limit'
+both image "$SEE"
+head -c 16777216 /dev/zero > list.txt
+cp list.txt ../want/list.txt
+report out "$SEE_URL" "$SEE_DOMAIN"
+ends 0 "$SEE_TEXT" scan --stop list.txt image out
+
+# A command line of a bad word, and what is said of it.
+while IFS='|' read -r words text; do
+    begin "the words $words"
+    ends_usage "usage: $text\n" $words
+done << END
+scan --page 511 i o|word 2: bad number
+scan --page 16777217 i o|word 2: bad number
+scan --page 0512 i o|word 2: bad number
+scan --margin 4194305 i o|word 2: bad number
+scan --workers 9 i o|word 2: bad number
+scan --depth 8 i o|word 2: bad number
+scan --xor 0 i o|word 2: bad number
+scan --word-min 257 i o|word 2: bad number
+scan --context 129 i o|word 2: bad number
+scan --spool-limit 0 i o|word 2: bad number
+scan --depth 1 --depth 1 i o|word 3: option given twice
+scan --log --log i o|word 2: option given twice
+scan --page=512 i o|word 1: unknown option
+scan -- i o|word 1: unknown option
+scan -e phone i o|word 2: unknown scanner
+scan --stop|word 2: value missing
+scan --word-min 9 --word-max 8 i o|word 7: word bounds crossed
+scan --word-min 9 --word-max 8 --depth 8 i o|word 6: bad number
+generate 7|word 2: place missing
+generate 7 0 x|word 3: extra word
+generate --stop s 7 0|word 1: unknown option
+generate 18446744073709551616 0|word 1: bad number
+generate 7 67108865|word 2: bad number
+END
+
+# A command line of a form that isn't built.
+while IFS='|' read -r words text; do
+    begin "the words $words"
+    ends 15 "not yet: $text\n" $words
+done << END
+generate 7 0|generate
+generate --log 7 0|generate
+scan --log a b o|parts
+scan --log i o|log
+scan --stop none i --log o|parts
+END
 
 # ---- images
 

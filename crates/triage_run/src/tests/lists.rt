@@ -143,7 +143,7 @@ const ROWS: &[Row] = &[
         ["", ""],
         "done pages=1 features=1\nwordlist.txt 1\n",
         &[
-            (8, "wordlist.txt", "2\tstrawberry\t\n"),
+            (8, "wordlist.txt", "2\tstrawberry\tstrawberry\n"),
             (18, "wordlist_stopped.txt", ""),
         ],
     ),
