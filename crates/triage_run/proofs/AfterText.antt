@@ -9,7 +9,7 @@ use Rattle.triage_run.specs.declared.status.Unbuilt.{Unbuilt}
 use Rattle.triage_run.specs.declared.status.Unbuilt.TheVariants.{Generate, Parts, Log, Size}
 use Rattle.triage_run.specs.Case.{Case}
 use Rattle.triage_run.specs.Call.{Call, case_of, found_text, IsCause, IsExact, HasLists, HasReadings, HasParts, HasFound}
-use Rattle.triage_run.proofs.Grown.{grown, cause_grown, exact_grown}
+use Rattle.triage_run.proofs.Grown.{grown, cause_grown}
 use Rattle.triage_run.specs.Status.{step_of, scanned_as, EndsAs, IsOrEarlier, IsBehind, IsRefusal}
 use Rattle.triage_run.specs.Steps.{any, alert_size, build, attach, end}
 use Rattle.triage_run.specs.Words.{unbuilt_of}

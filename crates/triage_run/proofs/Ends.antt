@@ -1,27 +1,26 @@
 -- What the ends of a scan bear, ahead of its text: each refusal, and the scan of its part.
-use Rattle.std.proofs.Common.{◌≡◌, ◌∙◌, inl, inr, refl, sym, ap, subst, arith, ℕ, suc, ◌<◌, ◌≤◌, ◌*◌, ◌++◌, map, List, [], ◌∷◌, length, Option, Some, None, Result, Ok, Err, IfOk, IfErr, OnOk, Bool}
-use Rattle.std.specs.Prelude.{IfSome, IsSomeAnd, IsTrue, option_and_then, option_map, nat_lt, slice_index_or, true, false, if◌then◌else◌}
+use Rattle.std.proofs.Common.{◌≡◌, ◌∙◌, inl, inr, refl, sym, ap, subst, arith, ℕ, ◌<◌, ◌≤◌, ◌*◌, ◌++◌, map, List, [], ◌∷◌, length, Option, Some, None, Result, Ok, Err, IfOk, IfErr, OnOk, Bool}
+use Rattle.std.specs.Prelude.{IfSome, IsSomeAnd, option_and_then, option_map, nat_lt, slice_index_or, true, false, if◌then◌else◌}
 use Rattle.byte_kit.specs.Counts.{Rose}
 use Rattle.std.proofs.lemmas.List.{append-nil}
 use Rattle.std.proofs.lemmas.Bool.Decides.{nat_tests}
 use Rattle.forensic_path.specs.declared.feature.Classed.{Classed}
-use Rattle.host_disk.specs.Files.{Files}
 use Rattle.host_source.specs.Source.{Slot}
 use Rattle.pattern_kit.specs.Building.{Refusals}
 use Rattle.scan_settings.specs.declared.fault.BadWord.{BadWord}
 use Rattle.scan_settings.specs.declared.words.Command.{Command}
 use Rattle.scan_settings.specs.declared.words.Command.TheVariants.{Scan as ScanCommand, Generate as GenerateCommand}
 use Rattle.triage_run.specs.declared.status.Status.{Status}
-use Rattle.triage_run.specs.declared.status.Status.TheVariants.{Done, Usage, ListTooLong, ReadFault, PatternRefused, DiskFault, OutFault, NoMemory, NotYet}
+use Rattle.triage_run.specs.declared.status.Status.TheVariants.{Done, Usage, ListTooLong, ReadFault, PatternRefused, DiskFault, NoMemory, NotYet}
 use Rattle.triage_run.specs.declared.status.List.{List as ListName}
 use Rattle.triage_run.specs.declared.status.List.TheVariants.{Stop, Alert}
 use Rattle.triage_run.specs.declared.status.ReadPlace.TheVariants.{StopList, AlertList, Image, Page}
 use Rattle.triage_run.specs.declared.status.Unbuilt.{Unbuilt}
 use Rattle.triage_run.specs.declared.status.Unbuilt.TheVariants.{Generate, Parts, Log, Size}
 use Rattle.triage_run.specs.declared.words.Scan.{Scan}
-use Rattle.triage_run.specs.Call.{Call, IsBuilt, IsTooLong, IsTooLarge, HasPage, case_told, HasReport, IsCause, IsExact, HasLists, HasReadings, HasParts, HasFound, Scanned}
+use Rattle.triage_run.specs.Call.{Call, IsBuilt, IsTooLong, IsTooLarge, HasPage, case_told, HasReport, IsCause, IsExact, HasFound, Scanned}
 use Rattle.triage_run.specs.Case.{joined, LeavesReport}
-use Rattle.triage_run.specs.Lists.{slot_of, lists_of, AreListed, AreEntries, ListFits, IsListsEnd}
+use Rattle.triage_run.specs.Lists.{lists_of, AreListed, AreEntries, ListFits, IsListsEnd}
 use Rattle.triage_run.specs.Part.{items_under, WritesPart, CountsPart, PartHasPage, IsPartEnd}
 use Rattle.triage_run.proofs.WholeReport.{report_told, counts_told}
 use Rattle.stop_lists.specs.Lists.{ListEntries}

@@ -1,5 +1,5 @@
 -- A call of which more counts are known to have risen: what bore an answer bears it still.
-use Rattle.std.proofs.Common.{◌≡◌, ℕ, List, Option, Some}
+use Rattle.std.proofs.Common.{ℕ, List}
 use Rattle.triage_run.specs.declared.status.Status.{Status}
 use Rattle.triage_run.specs.declared.status.Status.TheVariants.{Done, Usage, ListTooLong, ReadFault, PatternRefused, DiskFault, OutFault, NoMemory, NotYet}
 use Rattle.triage_run.specs.declared.status.ReadPlace.TheVariants.{StopList, AlertList, Image, Page}

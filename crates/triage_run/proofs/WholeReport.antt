@@ -6,12 +6,12 @@ use Rattle.std.proofs.lemmas.Bool.{and_parts}
 use Rattle.std.proofs.lemmas.List.{map-append}
 use Rattle.forensic_path.specs.declared.feature.Classed.{Classed}
 use Rattle.host_disk.specs.Files.{Files}
-use Rattle.scan_set.specs.Here.{features_of, owned}
+use Rattle.scan_set.specs.Here.{owned}
 use Rattle.scan_set.proofs.Images.{owned-none, owned-join, features_owned}
 use Rattle.stop_lists.specs.Lists.{ListEntries, entries_of}
 use Rattle.feature_file.specs.Files.{report_files, is_written, is_histogram}
 use Rattle.feature_file.specs.FeatureFile.{file_text}
-use Rattle.report_publish.specs.Publish.{files_for, AreWritten}
+use Rattle.report_publish.specs.Publish.{AreWritten}
 use Rattle.report_publish.specs.declared.publish.TheConstants.{FILES_BUILT}
 use Rattle.scan_set.specs.declared.plan.ScanPlan.{ScanPlan}
 use Rattle.triage_run.specs.declared.words.Scan.{Scan}

@@ -1,5 +1,5 @@
 -- What a call saw and left, and which answers this bears.
-use Rattle.std.specs.Prelude.{◌≡◌, ℕ, ◌*◌, ◌<◌, ◌≤◌, Bool, List, [], ◌∷◌, length, Option, Some, None, option_map, option_and_then, IfSome, IsSomeAnd, Result, Ok, Err, IsOkAnd, IfOk, IfErr}
+use Rattle.std.specs.Prelude.{◌≡◌, ℕ, ◌*◌, ◌<◌, Bool, List, [], ◌∷◌, Option, Some, None, option_map, option_and_then, IfSome, IsSomeAnd, Result, Err, IsOkAnd, IfOk, IfErr}
 use Rattle.byte_kit.specs.Counts.{Rose}
 use Rattle.host_source.specs.Source.{SourceNature, Slot}
 use Rattle.host_source.specs.Sink.{Takes}

@@ -1,19 +1,19 @@
 -- The scan that the words of a call ask for, and the forms of a command that aren't built.
-use Rattle.std.specs.Prelude.{◌≡◌, ℕ, ◌≤◌, nat_lt, Bool, List, [], length, Option, Some, None, Result, Ok, Err, if◌then◌else◌}
+use Rattle.std.specs.Prelude.{◌≡◌, ◌≤◌, nat_lt, List, length, String, Option, Some, None, Result, Ok, Err, if◌then◌else◌}
 use Rattle.scan_find.specs.declared.TheConstants.{PATTERNS_MOST}
 use Rattle.scan_settings.specs.declared.fault.BadWord.{BadWord}
 use Rattle.scan_settings.specs.declared.settings.Plan.{Plan}
-use Rattle.scan_settings.specs.declared.settings.Settings.{Settings}
 use Rattle.scan_settings.specs.declared.words.Command.{Command}
 use Rattle.scan_settings.specs.declared.words.Command.TheVariants.{Scan as ScanCommand, Generate as GenerateCommand}
 use Rattle.scan_settings.specs.Faults.{bad}
+use Rattle.scan_settings.specs.Settings.{texts}
+use Rattle.scan_settings.specs.Words.{command_of}
 use Rattle.scan_set.specs.declared.plan.ScanPlan.{ScanPlan}
 use Rattle.scan_set.specs.Lawful.{IsLawful}
 use Rattle.triage_run.specs.declared.status.Status.{Status}
 use Rattle.triage_run.specs.declared.status.Status.TheVariants.{Usage, NoMemory, NotYet}
 use Rattle.triage_run.specs.declared.status.Unbuilt.{Unbuilt}
 use Rattle.triage_run.specs.declared.status.Unbuilt.TheVariants.{Generate, Parts, Log}
-use Rattle.triage_run.specs.declared.words.ListNames.{ListNames}
 use Rattle.triage_run.specs.declared.words.Scan.{Scan}
 
 -- ---- the scan
@@ -46,6 +46,10 @@ scan_in (GenerateCommand settings seed size) = None
 abbrev pub scan_of : Result Command BadWord → Option Scan
 scan_of (Ok command) = scan_in command
 scan_of (Err bad) = None
+
+-- the scan that the words of a call ask for
+abbrev pub scan_asked : {A : Type 0} → List (String A) → Option Scan
+scan_asked words = scan_of (command_of (texts words))
 
 -- what a scan may look for, and where: an image of at least one part, whose pages have bytes
 pub record IsScan (scan : Scan) : Type 0 where

@@ -10,7 +10,7 @@ ghost use Rattle.triage_run.specs.Patterns.{MayBuild};
 ghost use Rattle.triage_run.specs.Sources.{TellAlike, IsReady, Pairwise, OnlyParts};
 ghost use Rattle.triage_run.specs.Status.{scanned_as, IfDone, IfReadFault, IsAheadOf, IsBehind, IsRefusal};
 ghost use Rattle.triage_run.specs.Steps.{stop_list, build, attach, mount};
-ghost use Rattle.triage_run.specs.Words.{scan_of};
+ghost use Rattle.triage_run.specs.Words.{scan_asked};
 
 use crate::lists::read_lists;
 use crate::patterns::build_matchers;
@@ -57,10 +57,10 @@ where
     requires words { length words.now < 2 ^ 32 }
     requires sources { (1 ≤ vec_len sources) × (vec_len sources ≤ 8) }
     requires alike { TellAlike S.nature sources.items }
-    requires ready { All (IsReady S.nature S.slots (scan_of (command_of (texts words.now)))) sources.items }
-    requires lists { AreReady (L.nature lists) (L.slots lists) (lists_of (scan_of (command_of (texts words.now)))) }
+    requires ready { All (IsReady S.nature S.slots (scan_asked words.now)) sources.items }
+    requires lists { AreReady (L.nature lists) (L.slots lists) (lists_of (scan_asked words.now)) }
     requires unmounted { D.mounted disk ≡ false }
-    requires asked { IfSome (scan_of (command_of (texts words.now))) (λ scan. IsTrue ((D.nature disk).may_mount scan.out) × MayBuild (K.may_build kit) scan.plan.patterns) }
+    requires asked { IfSome (scan_asked words.now) (λ scan. IsTrue ((D.nature disk).may_mount scan.out) × MayBuild (K.may_build kit) scan.plan.patterns) }
 
     // Every object comes back, tells what it told, and has a count of faults or refusals that is no lower.
     ensures sources { Pairwise (KeepsSource S.nature S.faults) sources.items result.sources.items }
@@ -78,10 +78,10 @@ where
 
     // No slot but those of the parts and of the lists is attached. Behind the mount the disk is mounted. No file but
     // those of the report differs, and none where the image or a list could not be read.
-    ensures slots { AllByRecursion (λ s. OnlyParts (scan_of (command_of (texts words.now))) (S.slots s)) result.sources.items }
-    ensures list_slots { OnlyLists (lists_of (scan_of (command_of (texts words.now)))) (L.slots result.lists) }
+    ensures slots { AllByRecursion (λ s. OnlyParts (scan_asked words.now) (S.slots s)) result.sources.items }
+    ensures list_slots { OnlyLists (lists_of (scan_asked words.now)) (L.slots result.lists) }
     ensures mounted { IsBehind mount result.status → D.mounted result.disk ≡ true }
-    ensures others { KeepsOthers (files_of (scan_of (command_of (texts words.now)))) (D.nature disk) (D.files disk) (D.files result.disk) }
+    ensures others { KeepsOthers (files_of (scan_asked words.now)) (D.nature disk) (D.files disk) (D.files result.disk) }
     ensures unwritten { IfReadFault result.status (D.files result.disk ≡ D.files disk) }
 
     // Done leaves the report of the whole image under both lists, by readings that the patterns have, and puts its
@@ -125,10 +125,10 @@ fn scan_words<S: Source, L: Source, D: Disk, K: Kit>(
     kit: &mut K,
 ) -> Result<Summary, Status>
     requires words { length words.now < 2 ^ 32 }
-    requires ready { IsReady S.nature S.slots (scan_of (command_of (texts words.now))) source.old }
-    requires lists { AreReady (L.nature lists.old) (L.slots lists.old) (lists_of (scan_of (command_of (texts words.now)))) }
+    requires ready { IsReady S.nature S.slots (scan_asked words.now) source.old }
+    requires lists { AreReady (L.nature lists.old) (L.slots lists.old) (lists_of (scan_asked words.now)) }
     requires unmounted { D.mounted disk.old ≡ false }
-    requires asked { IfSome (scan_of (command_of (texts words.now))) (λ scan. IsTrue ((D.nature disk.old).may_mount scan.out) × MayBuild (K.may_build kit.old) scan.plan.patterns) }
+    requires asked { IfSome (scan_asked words.now) (λ scan. IsTrue ((D.nature disk.old).may_mount scan.out) × MayBuild (K.may_build kit.old) scan.plan.patterns) }
     ensures source { KeepsSource S.nature S.faults source.old source.new }
     ensures lists { KeepsSource L.nature L.faults lists.old lists.new }
     ensures disk { KeepsDisk D.nature D.faults disk.old disk.new }
@@ -137,10 +137,10 @@ fn scan_words<S: Source, L: Source, D: Disk, K: Kit>(
     ensures unasked { IsAheadOf build (scanned_as result) → kit.new ≡ kit.old }
     ensures unread { IsAheadOf attach (scanned_as result) → source.new ≡ source.old }
     ensures untouched { IsAheadOf mount (scanned_as result) → disk.new ≡ disk.old }
-    ensures slots { OnlyParts (scan_of (command_of (texts words.now))) (S.slots source.new) }
-    ensures list_slots { OnlyLists (lists_of (scan_of (command_of (texts words.now)))) (L.slots lists.new) }
+    ensures slots { OnlyParts (scan_asked words.now) (S.slots source.new) }
+    ensures list_slots { OnlyLists (lists_of (scan_asked words.now)) (L.slots lists.new) }
     ensures mounted { IsBehind mount (scanned_as result) → D.mounted disk.new ≡ true }
-    ensures others { KeepsOthers (files_of (scan_of (command_of (texts words.now)))) (D.nature disk.old) (D.files disk.old) (D.files disk.new) }
+    ensures others { KeepsOthers (files_of (scan_asked words.now)) (D.nature disk.old) (D.files disk.old) (D.files disk.new) }
     ensures unwritten { IfReadFault (scanned_as result) (D.files disk.new ≡ D.files disk.old) }
     ensures refused { IfErr result IsRefusal }
     ensures sure { OnOk result ((S.faults source.new ≡ S.faults source.old) × (L.faults lists.new ≡ L.faults lists.old) × (D.faults disk.new ≡ D.faults disk.old) × (K.refusals kit.new ≡ K.refusals kit.old)) }

@@ -3,7 +3,7 @@ ghost use Rattle.std.specs.Prelude.{◌≡◌, ◌<◌, ◌^◌, None, Some, len
 ghost use Rattle.scan_settings.specs.Lawful.{IsLawful as IsLawfulCommand};
 ghost use Rattle.scan_settings.specs.Settings.{texts};
 ghost use Rattle.scan_settings.specs.Words.{command_of};
-ghost use Rattle.triage_run.specs.Words.{plan_of, scan_in, scan_of, unbuilt_in, unbuilt_of, IsScan, IsWordsEnd};
+ghost use Rattle.triage_run.specs.Words.{plan_of, scan_asked, scan_in, unbuilt_in, unbuilt_of, IsScan, IsWordsEnd};
 
 use crate::status::{Status, Unbuilt};
 use byte_kit::{Name, Names};
@@ -37,7 +37,7 @@ pub struct Scan {
 /// isn't built, or wants memory.
 pub fn scan_given(alloc: Global, words: &[String]) -> Result<Scan, Status>
     requires { length words.now < 2 ^ 32 }
-    ensures scan { IfOk result (λ scan. scan_of (command_of (texts words.now)) ≡ Some scan) }
+    ensures scan { IfOk result (λ scan. scan_asked words.now ≡ Some scan) }
     ensures lawful { IfOk result IsScan }
     ensures built { OnOk result (unbuilt_of (command_of (texts words.now)) ≡ None) }
     ensures bad { IfErr result (IsWordsEnd (command_of (texts words.now))) }
