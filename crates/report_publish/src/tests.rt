@@ -211,31 +211,8 @@ const REPORTS: &[(u16, &[(u32, &str)], usize)] = &[
         ],
         40,
     ),
-    (
-        1,
-        &[
-            (1, URLS),
-            (2, "second"),
-            (3, "third"),
-            (9, ALERTS),
-            (11, STOPPED_URLS),
-            (12, ""),
-        ],
-        10,
-    ),
-    (
-        20,
-        &[
-            (1, "first"),
-            (2, "second"),
-            (3, ADDRESSES),
-            (4, HARDWARE),
-            (6, UNREAD),
-            (11, ""),
-            (13, STOPPED_ADDRESSES),
-        ],
-        22,
-    ),
+    (1, &[(1, URLS), (2, "second"), (11, STOPPED_URLS)], 10),
+    (20, &[(1, "first"), (3, ADDRESSES), (6, UNREAD)], 22),
     (64, &[(1, "first"), (8, WORDS), (9, ALERTS)], 10),
     (0, &[(1, "first"), (8, ""), (9, ALERTS), (11, "")], 4),
 ];
