@@ -1,12 +1,13 @@
 -- Where no run of pairs begins.
-use Rattle.std.proofs.Common.{◌≡◌, ◌∙◌, ℕ, ◌+◌, ◌-◌, ◌*◌, ◌/◌, ◌<◌, ◌≤◌, true, false, ◌==◌, List, [], length, take, drop, get_or, refl, sym, ap, subst, inl, inr, arith, length-drop}
+use Rattle.std.proofs.Common.{◌≡◌, ◌∙◌, ℕ, ◌+◌, ◌-◌, ◌*◌, ◌/◌, ◌<◌, ◌≤◌, true, false, ◌==◌, ◌&&◌, nat_eq, eqb-true, IsTrue, List, [], length, take, drop, get_or, refl, sym, ap, subst, inl, inr, arith, length-drop}
 use Rattle.std.specs.Prelude.{nat_le}
-use Rattle.std.proofs.lemmas.Bool.{cases_lt, false≢true}
+use Rattle.std.proofs.lemmas.Bool.{cases_lt, false≢true, and_parts}
 use Rattle.std.proofs.lemmas.Bool.Decides.{nat_tests}
 use Rattle.std.proofs.lemmas.List.{get_or-take, length-take, drop-drop}
 use Rattle.sbuf_nest.specs.Around.{look_at}
 use Rattle.sbuf_nest.specs.Marks.{NoneFrom}
-use Rattle.vector_search.specs.Places.{NoneIn}
+use Rattle.vector_search.specs.Places.{NoneIn, mask_of}
+use Rattle.vector_search.proofs.Masks.{none_marked}
 use Rattle.sbuf_nest.specs.declared.look.TheConstants.{LOOK_BEFORE, LOOK_AFTER}
 use Rattle.decode_views.specs.Utf16.{is_pair, pairs_in, last_pairs, begins_pairs, utf16_run, utf16_extent}
 use Rattle.decode_views.specs.Starts.{utf16_starts}
@@ -75,6 +76,54 @@ module _ (bytes : List ℕ) where
   -- none of the places passes the test
   pub none_passed : (first end : ℕ) → NoneIn (are_two_pairs bytes) first end → NoneFrom utf16_starts bytes first end
   none_passed first end none place low high = none_without_two place (none place low high)
+
+  -- one range behind the other
+  pub none_joined : (first middle end : ℕ) → NoneFrom utf16_starts bytes first middle → NoneFrom utf16_starts bytes middle end
+      → NoneFrom utf16_starts bytes first end
+  none_joined first middle end one two place low high = elim (cases_lt place middle) [
+    | inl ahead ↦ one place low ahead
+    | inr behind ↦ two place behind high
+  ]
+
+  -- a run that begins at one of twenty-eight places has two pairs in a row at one of the last sixteen
+  pub none_told : (at : ℕ) → NoneIn (are_two_pairs bytes) (at + 12) (at + 28) → NoneFrom utf16_starts bytes at (at + 28)
+  unfolding are_two_pairs
+  none_told at none place low high =
+      let pair = (at + 13 - place) / 2 in
+      let two = place + 2 * pair in
+      few_pairs place (
+      elim (cases_lt (pairs_in (drop place bytes)) 8) [
+        | inl few ↦ few
+        | inr eight ↦ (
+            let first = pair_at bytes place pair two (two + 1) (omega (arith, eight, low)) refl refl in
+            let second = pair_at bytes place (pair + 1) (two + 2) (two + 3) (omega (arith, eight, low)) (omega arith) (omega arith) in
+            absurd (false≢true (sym (none two (omega (arith, low, high)) (omega (arith, low, high))) ∙ rw (first, second) refl))
+            )
+      ]
+      )
+
+  told : (at from marks : ℕ) → from ≡ at + 12 → marks ≡ mask_of (are_two_pairs bytes) from 16 → IsTrue (nat_eq marks 0) → NoneFrom utf16_starts bytes at (at + 28)
+  told at from marks is_from is empty =
+      let none = none_marked (are_two_pairs bytes) from 16 (sym is ∙ eqb-true marks 0 empty) in
+      none_told at (λ place low high. none place (omega (arith, is_from, low)) (omega (arith, is_from, high)))
+
+  told_to : (at end from marks : ℕ) → end ≡ at + 28 → from ≡ at + 12 → marks ≡ mask_of (are_two_pairs bytes) from 16 → IsTrue (nat_eq marks 0)
+      → NoneFrom utf16_starts bytes at end
+  told_to at end from marks is_end is_from is empty place low high = told at from marks is_from is empty place low (omega (arith, is_end, high))
+
+  -- a step of the search: four masks without a bit
+  pub none_by_masks : (at a b c d : ℕ) → a ≡ mask_of (are_two_pairs bytes) (at + 12) 16 → b ≡ mask_of (are_two_pairs bytes) (at + 12 + 28) 16
+      → c ≡ mask_of (are_two_pairs bytes) (at + 12 + 56) 16 → d ≡ mask_of (are_two_pairs bytes) (at + 12 + 84) 16
+      → IsTrue (nat_eq a 0 && nat_eq b 0 && nat_eq c 0 && nat_eq d 0) → NoneFrom utf16_starts bytes at (at + 112)
+  none_by_masks at a b c d is_a is_b is_c is_d empty place low high =
+      let three = and_parts (nat_eq a 0 && nat_eq b 0 && nat_eq c 0) (nat_eq d 0) empty in
+      let two = and_parts (nat_eq a 0 && nat_eq b 0) (nat_eq c 0) three.0 in
+      let one = and_parts (nat_eq a 0) (nat_eq b 0) two.0 in
+      none_joined at (at + 28) (at + 112) (told at (at + 12) a refl is_a one.0)
+      (none_joined (at + 28) (at + 56) (at + 112) (told_to (at + 28) (at + 56) (at + 12 + 28) b (omega arith) (omega arith) is_b one.1)
+      (none_joined (at + 56) (at + 84) (at + 112) (told_to (at + 56) (at + 84) (at + 12 + 56) c (omega arith) (omega arith) is_c two.1)
+      (told_to (at + 84) (at + 112) (at + 12 + 84) d (omega arith) (omega arith) is_d three.1)))
+      place low high
 
   -- the pairs from a place on where none begins, and the place behind them
   pub none_over : (at pairs : ℕ) → at < length bytes → pairs ≤ pairs_in (drop at bytes) → utf16_starts (look_at bytes at) at ≡ []

@@ -189,11 +189,11 @@ fn spaced(alloc: Global, ahead: usize, other: u8, length: usize) -> Result<Vec<u
 
 #[test]
 fn no_offset_hides_a_run(rt: HostRuntime) -> Result<(), Fail> {
-    for at in 0..49 {
+    for at in 0..241 {
         for other in [0, b'.', 255] {
-            let bytes = spaced(rt.alloc(), at, other, 64)?;
+            let bytes = spaced(rt.alloc(), at, other, 256)?;
             assert!(rt;
-                are_runs((bytes.as_slice(), 0, 64), &[(at, (16, 8))], rt.alloc())?,
+                are_runs((bytes.as_slice(), 0, 256), &[(at, (16, 8))], rt.alloc())?,
                 "at {at} behind {other}"
             );
         }

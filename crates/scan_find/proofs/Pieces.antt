@@ -6,6 +6,7 @@ use Rattle.pattern_kit.specs.Matching.{length_at, length_or_none}
 use Rattle.pattern_kit.specs.declared.TheConstants.{PATTERN_REACH}
 use Rattle.sbuf_nest.specs.Around.{Around, look_at}
 use Rattle.sbuf_nest.specs.Marks.{marks_of, owned_marks}
+use Rattle.sbuf_nest.proofs.MarkLists.{marks_of-none}
 use Rattle.sbuf_nest.specs.declared.look.TheConstants.{LOOK_AFTER}
 use Rattle.sbuf_nest.specs.declared.mark.Mark.{Mark}
 use Rattle.sbuf_nest.specs.declared.sbuf.Sbuf.{Sbuf}
@@ -101,6 +102,14 @@ keywords_alone keywords patterns bytes first count none =
     sym (append-nil front) ∙ ap (λ more. front ++ more)
     (sym (ap (λ some. numbered_marks (λ pattern. pattern_of pattern (look_at bytes place)) KEYWORDS_MOST some place) none
     ∙ numbered-none (λ (pattern : List ℕ → Option ℕ). pattern_of pattern (look_at bytes place)) place KEYWORDS_MOST)))
+
+-- without keywords there are none
+pub no_keywords : (keywords : List (List ℕ)) (bytes : List ℕ) (first count : ℕ) → keywords ≡ [] →
+    marks_of (λ look place. numbered_marks (λ keyword. keyword_of keyword look) 0 keywords place) bytes first count ≡ []
+no_keywords keywords bytes first count none =
+    marks_of-none _ bytes first count (λ place low high.
+    ap (λ some. numbered_marks (λ keyword. keyword_of keyword (look_at bytes place)) 0 some place) none
+    ∙ numbered-none (λ (keyword : List ℕ). keyword_of keyword (look_at bytes place)) place 0)
 
 -- the marks of the places that a piece of a buffer owns
 pub owned-piece : (judge : Around → ℕ → List Mark) (piece : Sbuf) (bytes : List ℕ) (from to : ℕ) →

@@ -16,7 +16,8 @@
 ghost use Rattle.std.specs.Prelude.{◌≡◌, ◌-◌, ◌≤◌, ◌++◌, length, map, OnOk, OnErr};
 ghost use Rattle.std.specs.List.{All};
 ghost use Rattle.sbuf_nest.specs.Marks.{marks_of, owned_marks, AppendsFirst};
-ghost use Rattle.scan_find.specs.Marks.{IsText, given_marks};
+ghost use Rattle.scan_find.specs.Find.{keyword_of};
+ghost use Rattle.scan_find.specs.Marks.{IsText, given_marks, numbered_marks};
 ghost use Rattle.scan_find.specs.declared.TheConstants.{KEYWORDS_MOST, PATTERNS_MOST};
 
 use crate::keywords::{KeywordSearch, Keywords};
@@ -81,14 +82,31 @@ pub fn find_given_into<M: Matcher>(
     ensures err { OnErr result
         (AppendsFirst found.old found.new (owned_marks (given_marks keywords.now (map M.matches (map M.reading matchers.old))) sb.now)) }
 {
-    let keywords = Keywords::of(keywords);
     if matchers.is_empty() {
-        let mut search = KeywordSearch {
-            keywords: &keywords,
-        };
-        return find_marks(sb, &mut search, found);
+        return find_keywords(sb, keywords, found);
     }
+    let keywords = Keywords::of(keywords);
     search_pieces(alloc, sb, &keywords, matchers, lengths, found)
+}
+
+// Appends the marks of the keywords. Where there are none, as for most values of encoded texts, no table is
+// made.
+fn find_keywords(sb: &Sbuf, keywords: &[Bytes], found: &mut Found) -> Result<(), NoMemory>
+    requires keywords { length keywords.now ≤ KEYWORDS_MOST }
+    requires texts { All IsText keywords.now }
+    ensures ok { OnOk result
+        (found.new ≡ found.old ++ owned_marks (λ look place. numbered_marks (λ keyword. keyword_of keyword look) 0 keywords.now place) sb.now) }
+    ensures err { OnErr result
+        (AppendsFirst found.old found.new (owned_marks (λ look place. numbered_marks (λ keyword. keyword_of keyword look) 0 keywords.now place) sb.now)) }
+{
+    if keywords.is_empty() {
+        return Ok(());
+    }
+    let keywords = Keywords::of(keywords);
+    let mut search = KeywordSearch {
+        keywords: &keywords,
+    };
+    find_marks(sb, &mut search, found)
 }
 
 // Goes over the owned places piece by piece.

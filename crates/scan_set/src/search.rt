@@ -26,6 +26,8 @@ pub(crate) struct Lists {
     pub(crate) events: Events,
     // What the last search of a scanner has found.
     found: Found,
+    // What the search for packets has found, which comes ahead of its turn.
+    packets: Found,
     // What the last search of a decoder has found.
     starts: Starts,
     // What the patterns match, place by place.
@@ -38,6 +40,7 @@ impl Lists {
         Lists {
             events: Events::make(alloc),
             found: Found::make(alloc),
+            packets: Found::make(alloc),
             starts: Starts::make(alloc),
             lengths: Lengths::make(alloc),
         }
@@ -69,7 +72,8 @@ pub(crate) fn search_block<M: Matcher>(
     Ok(())
 }
 
-// Lists the events of the scanners.
+// Lists the events of the scanners. Packets are searched first, since that computes most: the bytes of the block
+// come from memory meanwhile, and the other searches find them in the cache.
 fn search_scanners<M: Matcher>(
     alloc: Global,
     block: &Sbuf,
@@ -84,10 +88,10 @@ fn search_scanners<M: Matcher>(
         (lists.new.events.items.items ≡ owned_marks (plain_events (map M.matches (map M.reading matchers.old)) plan.now false) block.now) }
 {
     lists.events.items.clear();
+    search_packets(block, plan, &mut lists.packets)?;
     search_urls(block, plan, &mut lists.found)?;
     lists.events.merge(lists.found.marks())?;
-    search_packets(block, plan, &mut lists.found)?;
-    lists.events.merge(lists.found.marks())?;
+    lists.events.merge(lists.packets.marks())?;
     search_execs(block, plan, &mut lists.found)?;
     lists.events.merge(lists.found.marks())?;
     search_given(

@@ -1,15 +1,16 @@
 -- Every URL and every domain stands beside a `://`.
-use Rattle.std.proofs.Common.{◌≡◌, ◌∙◌, ℕ, zero, suc, ◌+◌, ◌-◌, ◌<◌, ◌≤◌, Bool, true, false, List, [], ◌∷◌, length, take, drop, get_or, sym, ap, subst, refl, arith, None, ⊎_elim, codes}
-use Rattle.std.specs.Prelude.{slice_range}
+use Rattle.std.proofs.Common.{◌≡◌, ◌∙◌, ℕ, zero, suc, ◌+◌, ◌-◌, ◌<◌, ◌≤◌, Bool, true, false, List, [], ◌∷◌, length, take, drop, get_or, sym, ap, subst, refl, arith, None, min, inl, inr, ⊎_elim, codes}
+use Rattle.std.specs.Prelude.{◌==◌}
 use Rattle.std.specs.Char.{to_ascii_lowercase}
-use Rattle.std.proofs.lemmas.Bool.{and_parts, eqb-true, leb-true, cases_lt}
+use Rattle.std.proofs.lemmas.Bool.{and_parts, eqb-true, leb-true, cases_lt, false≢true}
 use Rattle.std.proofs.lemmas.List.{get_or-take, get_or-drop, get_or_past, length-take, length-drop}
 use Rattle.sbuf_nest.specs.Around.{Around, look_at}
 use Rattle.sbuf_nest.specs.declared.look.TheConstants.{LOOK_BEFORE, LOOK_AFTER}
 use Rattle.scan_url.specs.Url.{starts_caseless, scheme_of, url_of}
 use Rattle.scan_url.specs.Domain.{ends_caseless, ends_with_scheme, domain_of}
 use Rattle.scan_url.specs.Marks.{url_marks}
-use Rattle.scan_url.specs.SchemeEnd.{EndsScheme, NoSchemeEnd}
+use Rattle.scan_url.specs.SchemeEnd.{may_end_scheme, ends_scheme, EndsScheme, NoSchemeEnd}
+use Rattle.vector_search.specs.Places.{NoneIn}
 use Rattle.scan_url.specs.declared.find.TheConstants.{END_BYTES, NAME_LEAST, NAME_MOST}
 
 -- `://` stands at the place
@@ -195,44 +196,46 @@ module _ (bytes : List ℕ) (place : ℕ) where
       there : place ≤ at → place + (at - place) ≡ at
       there h = omega arith
 
-reads : (bytes : List ℕ) (at : ℕ) → HasMark bytes at → (j : ℕ) → j < 3 → get_or bytes (at + j) 0 ≡ get_or (codes "://") j 0
-reads bytes at m zero low = let e : at + 0 ≡ at = omega arith in rw e m.colon
-reads bytes at m (suc zero) low = m.first
-reads bytes at m (suc (suc zero)) low = m.second
-reads bytes at m (suc (suc (suc j))) low = absurd (omega arith)
-
-within : (bytes : List ℕ) (at : ℕ) → HasMark bytes at → at + END_BYTES ≤ length bytes
-within bytes at m =
-    ⊎_elim (λ short. omega arith) (λ long. absurd (omega (arith, m.second, get_or_past bytes (at + 2) 0 long))) (cases_lt (at + 2) (length bytes))
-
--- the three bytes, and the word
+-- the three bytes, one by one and by the test
 occurs : (bytes : List ℕ) (at : ℕ) → HasMark bytes at → EndsScheme bytes at
-occurs bytes at m = record { fits = within bytes at m; reads = reads bytes at m }
+unfolding may_end_scheme ends_scheme
+occurs bytes at m = rw (m.colon, m.first, m.second) refl
 
 has_mark : (bytes : List ℕ) (at : ℕ) → EndsScheme bytes at → HasMark bytes at
-has_mark bytes at o =
-    let e : at ≡ at + 0 = omega arith in
-    record { colon = ap (λ k. get_or bytes k 0) e ∙ o.reads 0 (omega arith); first = o.reads 1 (omega arith); second = o.reads 2 (omega arith) }
+unfolding may_end_scheme ends_scheme
+has_mark bytes at ends =
+    let two = and_parts (may_end_scheme bytes at) (get_or bytes (at + 2) 0 == 47) ends in
+    let one = and_parts (get_or bytes at 0 == 58) (get_or bytes (at + 1) 0 == 47) two.0 in
+    record { colon = eqb-true _ _ one.0; first = eqb-true _ _ one.1; second = eqb-true _ _ two.1 }
 
-module _ (bytes : List ℕ) (from end : ℕ) (fits : end ≤ length bytes) where
-  pub count_part : length (slice_range bytes from end) ≡ end - from
-  count_part = omega (arith, length-take (end - from) (drop from bytes), length-drop from bytes)
+-- ---- the search for `://`
 
-  -- a search of a part finds each `://` of it
-  pub in_part : (at : ℕ) → from ≤ at → at + END_BYTES ≤ end → EndsScheme bytes at → EndsScheme (slice_range bytes from end) (at - from)
-  in_part at low high o =
-      let m = has_mark bytes at o in
-      let part = slice_range bytes from end in
-      let same = λ (j : ℕ) (l : j < 3). sym (after_at bytes from (end - from) (at - from + j) (omega arith)) in
-      occurs part (at - from) (moved bytes part at (at - from)
-      (ap (λ k. get_or bytes k 0) (omega arith) ∙ same 0 (omega arith) ∙ ap (λ k. get_or part k 0) (omega arith))
-      (ap (λ k. get_or bytes k 0) (omega arith) ∙ same 1 (omega arith))
-      (ap (λ k. get_or bytes k 0) (omega arith) ∙ same 2 (omega arith)) m)
+not_there : (bytes : List ℕ) (at : ℕ) → may_end_scheme bytes at ≡ false → EndsScheme bytes at → ⊥
+unfolding ends_scheme
+not_there bytes at fails ends = false≢true (sym fails ∙ (and_parts (may_end_scheme bytes at) (get_or bytes (at + 2) 0 == 47) ends).0)
 
-  -- and no other
-  pub in_whole : (k : ℕ) → EndsScheme (slice_range bytes from end) k → EndsScheme bytes (from + k)
-  in_whole k o =
-      occurs bytes (from + k) (mark_after bytes from (end - from) k (omega (arith, o.fits, count_part)) (has_mark (slice_range bytes from end) k o))
+-- places that fail the test have none
+pub none_by_test : (bytes : List ℕ) (next first end : ℕ) → first ≤ next - END_BYTES → NoneIn (may_end_scheme bytes) first end → NoSchemeEnd bytes next end
+none_by_test bytes next first end low none at least most = not_there bytes at (none at (omega (arith, low, least)) most)
+
+-- a place that has none, and those behind it that fail
+pub none_further : (bytes : List ℕ) (next at end : ℕ) → NoSchemeEnd bytes next at → ends_scheme bytes at ≡ false
+    → NoneIn (may_end_scheme bytes) (at + 1) end → NoSchemeEnd bytes next end
+none_further bytes next at end ahead here behind place low high = elim (cases_lt place at) [
+  | inl below ↦ ahead place low below
+  | inr above ↦ (elim (cases_lt at place) [
+    | inl further ↦ not_there bytes place (behind place (omega (arith, further)) high)
+    | inr same ↦ (let e : at ≡ place = omega (arith, same, above) in λ ends. false≢true (sym here ∙ (ap (ends_scheme bytes) e ∙ ends)))
+  ])
+]
+
+-- none begins behind the end
+pub none_to_end : (bytes : List ℕ) (next own_to end : ℕ) → min (own_to + NAME_MOST) (length bytes) ≤ end → NoSchemeEnd bytes next end
+    → NoSchemeEnd bytes next (own_to + NAME_MOST)
+none_to_end bytes next own_to end is none at low high ends = elim (cases_lt at end) [
+  | inl below ↦ none at low below ends
+  | inr above ↦ absurd (omega (arith, (has_mark bytes at ends).colon, get_or_past bytes at 0 (omega (arith, is, high, above))))
+]
 
 module _ (bytes : List ℕ) (next at : ℕ) (first : NoSchemeEnd bytes next at) (place : ℕ) (low : next ≤ place) (inside : place < length bytes) where
   -- nothing stands further ahead of the first `://` than the longest name is long

@@ -1,28 +1,27 @@
 // The search of a buffer for URLs and domains.
 //
 // It goes by a search for `://`, which each URL has behind the name of its scheme, and each domain
-// right ahead of it. There is a vector search for it; it is rare elsewhere; and it has no letters, so
-// their case makes no difference. Four places are judged for each one: a name has 3 to 5 letters.
+// right ahead of it. Two of its bytes are looked for, sixteen places at a time; it is rare elsewhere; and it
+// has no letters, so their case makes no difference. Four places are judged for each one: a name has 3 to 5
+// letters.
 //
 // It costs the vector search, which sees each owned byte about once, and the judging, which reads at
 // most `URL_MOST` bytes of a URL and as many of an authority. The worst image is `ftp://` over and over
 // again: each six bytes of it begin a URL of `URL_MOST` bytes.
-ghost use Rattle.std.specs.Prelude.{◌≡◌, ◌+◌, ◌<◌, ◌≤◌, ◌++◌, codes, IfNone, IfSome, OnOk, OnErr};
+ghost use Rattle.std.specs.Prelude.{◌≡◌, ◌+◌, ◌<◌, ◌≤◌, ◌++◌, length, IfNone, IfSome, OnOk, OnErr};
 ghost use Rattle.sbuf_nest.specs.Marks.{owned_marks, AppendsFirst};
 ghost use Rattle.scan_url.specs.Marks.{url_marks};
-ghost use Rattle.scan_url.specs.SchemeEnd.{EndsScheme, NoSchemeEnd};
+ghost use Rattle.scan_url.specs.SchemeEnd.{may_end_scheme, ends_scheme, EndsScheme, NoSchemeEnd};
 
 use crate::{domain_len, url_len};
 use byte_kit::NoMemory;
 use forensic_path::Kind;
-use memchr::memmem::Finder;
 use sbuf_nest::{Found, Look, Mark, Places, Sbuf, Search, find_marks};
+use std::simd::prelude::*;
+use vector_search::{PlaceTest, next_place};
 
-// What every scheme ends with, behind its name.
-const SCHEME_END: &[u8] = b"://";
-
-// How many bytes that has.
-const END_BYTES: usize = SCHEME_END.len();
+// How many bytes every scheme ends with, behind its name.
+const END_BYTES: usize = b"://".len();
 
 // How many bytes the shortest name of a scheme has.
 const NAME_LEAST: usize = b"ftp".len();
@@ -45,23 +44,20 @@ pub fn find_urls(
         (AppendsFirst found.old found.new (owned_marks (url_marks want_url want_domain) sb.now)) }
 {
     let mut search = UrlSearch {
-        finder: Finder::new(SCHEME_END),
         want_url,
         want_domain,
     };
     find_marks(sb, &mut search, found)
 }
 
-// The search for `://`, and which of the two kinds are wanted.
+// Which of the two kinds are wanted.
 #[derive(Drop)]
-struct UrlSearch<'a> {
-    finder: Finder<'a>,
+struct UrlSearch {
     want_url: bool,
     want_domain: bool,
-    ghost needle: { finder ≡ codes "://" },
 }
 
-impl<'a> Search for UrlSearch<'a> {
+impl Search for UrlSearch {
     type Item = Mark;
 
     ghost judge = { λ s. url_marks s.want_url s.want_domain };
@@ -69,7 +65,7 @@ impl<'a> Search for UrlSearch<'a> {
     // The places ahead of the next `://` where a scheme of its may begin, or, behind these, the one
     // where its host does: no URL begins between them, since a scheme's name is letters.
     fn next_places(&mut self, sb: &Sbuf, next: usize) -> Option<Places> {
-        let Some(at) = next_scheme_end(sb, &self.finder, next) else {
+        let Some(at) = next_scheme_end(sb, next) else {
             return None;
         };
         if next + NAME_LEAST <= at {
@@ -102,18 +98,58 @@ impl<'a> Search for UrlSearch<'a> {
 
 // The first `://` that can be of use to an owned place from `next` on: one that ends at `next` or
 // behind it, and begins no further behind the last owned place than the longest name is long.
-fn next_scheme_end(sb: &Sbuf, finder: &Finder, next: usize) -> Option<usize>
-    requires needle { finder.now ≡ codes "://" }
+fn next_scheme_end(sb: &Sbuf, next: usize) -> Option<usize>
     requires owned { next < sb.now.own_to }
     ensures none { IfNone result (NoSchemeEnd sb.now.bytes.now next (sb.now.own_to + NAME_MOST)) }
     ensures stands { IfSome result (EndsScheme sb.now.bytes.now) }
     ensures first { IfSome result (NoSchemeEnd sb.now.bytes.now next) }
     ensures near { IfSome result (λ at. (next ≤ at + END_BYTES) × (at < sb.now.own_to + NAME_MOST)) }
 {
-    let from = next.saturating_sub(END_BYTES);
-    let end = (sb.own_to() - 1 + NAME_MOST + END_BYTES).min(sb.len());
-    let Some(offset) = finder.find(sb.part(from, end)) else {
-        return None;
-    };
-    Some(from + offset)
+    let end = (sb.own_to() + NAME_MOST).min(sb.len());
+    let mut at = next_place(
+        &SchemeEndTest,
+        sb.bytes,
+        next.saturating_sub(END_BYTES),
+        end,
+    );
+    while at < end {
+        if ends_scheme(sb.bytes, at) {
+            return Some(at);
+        }
+        at = next_place(&SchemeEndTest, sb.bytes, at + 1, end);
+    }
+    None
+}
+
+// The end of a scheme stands at the place.
+#[tactic(auto, unfolding(crate::specs::SchemeEnd::ends_scheme))]
+fn ends_scheme(bytes: &[u8], at: usize) -> bool
+    requires { at < length bytes.now }
+    ensures { result ≡ ends_scheme bytes.now at }
+{
+    SchemeEndTest.passes_at(bytes, at) && bytes.len() - at > 2 && bytes[at + 2] == b'/'
+}
+
+// The test of places for the first two bytes of a scheme's end.
+struct SchemeEndTest;
+
+impl PlaceTest for SchemeEndTest {
+    ghost passes = { λ _. may_end_scheme };
+
+    ghost REACH = { 1 };
+
+    const REACH: usize = 1;
+
+    #[inline(always)]
+    fn mask(&self, bytes: &[u8], at: usize) -> u64 {
+        let first = u8x16::from_slice(&bytes[at..]);
+        let second = u8x16::from_slice(&bytes[at + 1..]);
+        (first.simd_eq(u8x16::splat(b':')) & second.simd_eq(u8x16::splat(b'/'))).to_bitmask()
+    }
+
+    #[inline(always)]
+    #[tactic(auto, unfolding(crate::specs::SchemeEnd::may_end_scheme))]
+    fn passes_at(&self, bytes: &[u8], place: usize) -> bool {
+        bytes[place] == b':' && bytes.len() - place > 1 && bytes[place + 1] == b'/'
+    }
 }

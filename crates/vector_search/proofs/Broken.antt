@@ -7,7 +7,7 @@ use Rattle.vector_search.specs.Rows.{IsRow, NoRowIn}
 use Rattle.vector_search.specs.declared.rows.TheConstants.{ROW}
 use Rattle.vector_search.proofs.Masks.{none_marked, first_marked, none_further}
 
-other : (marks : ℕ) → not (nat_eq marks 0) ≡ true → marks ≢ 0
+pub other : (marks : ℕ) → not (nat_eq marks 0) ≡ true → marks ≢ 0
 other marks some is = false≢true (sym (ap (λ m. not (nat_eq m 0)) is) ∙ some)
 
 module _ (stranger : ℕ → Bool) (end : ℕ) where

@@ -2,3 +2,4 @@ pub mod Broken
 pub mod Halves
 pub mod Lanes
 pub mod Masks
+pub mod Shared

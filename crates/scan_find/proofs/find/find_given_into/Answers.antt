@@ -13,11 +13,9 @@ returns-then-is_empty-clause-ok g c =
     let none : patterns ≡ [] =
     nil_from_length patterns
     (length-map (map g.M.Matcher.reading c.args.matchers.now) g.M.Matcher.matches ∙ length-map c.args.matchers.now g.M.Matcher.reading ∙ eqb-true _ _ (sym c.if-is_empty.ensures)) in
-    on_ok_weaker c.find_marks.result
-    (λ is. is ∙ ap (λ some. c.args.found.now ++ some)
-    (keywords_alone c.of-keywords.result.items.now patterns sb.bytes.now sb.own_from (sb.own_to - sb.own_from) none
-    ∙ ap (λ keywords. owned_marks (given_marks keywords patterns) sb) c.of-keywords.ensures))
-    c.find_marks.ensures.ok
+    on_ok_weaker c.find_keywords.result
+    (λ is. is ∙ ap (λ some. c.args.found.now ++ some) (keywords_alone c.args.keywords.now patterns sb.bytes.now sb.own_from (sb.own_to - sb.own_from) none))
+    c.find_keywords.ensures.ok
 
 pub returns-then-is_empty-clause-err : goal.returns-then-is_empty-clause-err
 returns-then-is_empty-clause-err g c =
@@ -26,11 +24,10 @@ returns-then-is_empty-clause-err g c =
     let none : patterns ≡ [] =
     nil_from_length patterns
     (length-map (map g.M.Matcher.reading c.args.matchers.now) g.M.Matcher.matches ∙ length-map c.args.matchers.now g.M.Matcher.reading ∙ eqb-true _ _ (sym c.if-is_empty.ensures)) in
-    on_err_weaker c.find_marks.result
-    (subst (AppendsFirst c.args.found.now c.find_marks.new.found)
-    (keywords_alone c.of-keywords.result.items.now patterns sb.bytes.now sb.own_from (sb.own_to - sb.own_from) none
-    ∙ ap (λ keywords. owned_marks (given_marks keywords patterns) sb) c.of-keywords.ensures))
-    c.find_marks.ensures.err
+    on_err_weaker c.find_keywords.result
+    (subst (AppendsFirst c.args.found.now c.find_keywords.new.found)
+    (keywords_alone c.args.keywords.now patterns sb.bytes.now sb.own_from (sb.own_to - sb.own_from) none))
+    c.find_keywords.ensures.err
 
 pub returns-clause-err : goal.returns-clause-err
 returns-clause-err g c =

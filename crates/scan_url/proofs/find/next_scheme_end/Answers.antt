@@ -1,36 +1,24 @@
-use Rattle.std.proofs.Common.{◌≡◌, ◌∙◌, ◌+◌, ◌-◌, ◌≤◌, ap, length, arith}
-use Rattle.scan_url.specs.declared.find.TheConstants.{END_BYTES}
-use Rattle.scan_url.proofs.Beside.{count_part, in_part, in_whole}
+use Rattle.std.proofs.Common.{◌∙◌, sym, arith}
+use Rattle.scan_url.proofs.Beside.{none_by_test, none_further, none_to_end}
 use Rattle.scan_url.proofs.find.next_scheme_end.Goals as goal
 
-pub returns-in_default-clause-none : goal.returns-in_default-clause-none
-returns-in_default-clause-none c =
-    let bytes = c.args.sb.now.bytes.now in
-    let from = c.saturating_sub-from.result in
-    let end = c.min-end.result in
-    let fits : end ≤ length bytes = omega arith in
-    let count : length c.part.result.now ≡ end - from = ap length c.part.ensures ∙ count_part bytes from end fits in
-    let nowhere = rw c.requires.needle at c.in_default.ensures in
-    λ at low high stands.
-    nowhere (at - from) (omega arith) (omega (arith, stands.fits))
-    (rw c.part.ensures (in_part bytes from end fits at (omega arith) (omega (arith, stands.fits)) stands))
+pub loop-at-init : goal.loop-at-init
+loop-at-init c =
+    let found = c.next_place-at.ensures in record {
+      low = omega (arith, found.low, c.saturating_sub.ensures);
+      high = found.high;
+      none = none_by_test c.args.sb.now.bytes.now c.args.next c.saturating_sub.result c.next_place-at.result (omega (arith, c.saturating_sub.ensures)) found.before;
+    }
 
-pub returns-clause-stands : goal.returns-clause-stands
-returns-clause-stands c =
-    let bytes = c.args.sb.now.bytes.now in
-    let end = c.min-end.result in
-    let found = rw (c.requires.needle, c.part.ensures) at c.in-Some.ensures in
-    in_whole bytes c.saturating_sub-from.result end (omega arith) c.in-Some.offset found.1
+pub loop-at-preserved : goal.loop-at-preserved
+loop-at-preserved c =
+    let found = c.next_place-at-in-loop-at.ensures in record {
+      low = omega (arith, c.loop-at.invariant.low, found.low);
+      high = found.high;
+      none = none_further c.args.sb.now.bytes.now c.args.next c.loop-at.at c.next_place-at-in-loop-at.result c.loop-at.invariant.none
+          (sym c.ends_scheme.ensures ∙ c.if-ends_scheme.false) found.before;
+    }
 
-pub returns-clause-first : goal.returns-clause-first
-returns-clause-first c =
-    let bytes = c.args.sb.now.bytes.now in
-    let from = c.saturating_sub-from.result in
-    let end = c.min-end.result in
-    let fits : end ≤ length bytes = omega arith in
-    let count : length c.part.result.now ≡ end - from = ap length c.part.ensures ∙ count_part bytes from end fits in
-    let found = rw c.requires.needle at c.in-Some.ensures in
-    let room : c.in-Some.offset + END_BYTES ≤ end - from = rw count at found.1.fits in
-    λ k low high stands.
-    found.0.before (k - from) (omega arith) (omega arith)
-    (rw c.part.ensures (in_part bytes from end fits k (omega arith) (omega arith) stands))
+pub returns-clause-none : goal.returns-clause-none
+returns-clause-none c =
+    none_to_end c.args.sb.now.bytes.now c.args.next c.args.sb.now.own_to c.loop-at.at (omega (arith, c.loop-at-test.false, c.min-end.ensures, c.own_to.ensures, c.len.ensures)) c.loop-at.invariant.none

@@ -2,6 +2,16 @@ use Rattle.std.proofs.Common.{◌+◌, length, arith}
 use Rattle.vector_search.proofs.Broken.{no_row_further, block_bars}
 use Rattle.vector_search.proofs.rows.past_broken.Goals as goal
 
+pub loop-wide-init : goal.loop-wide-init
+loop-wide-init g c =
+    let stranger = g.T.PlaceTest.passes c.args.strangers.now c.args.bytes.now in
+    let sampled = c.past_sampled-sampled in
+    let shared = c.past_shared-wide in record {
+      low = omega (arith, sampled.ensures.low, shared.ensures.low);
+      high = shared.ensures.high;
+      none = no_row_further stranger (length c.args.bytes.now) c.args.from sampled.result shared.result sampled.ensures.none shared.ensures.none;
+    }
+
 pub loop-wide-preserved : goal.loop-wide-preserved
 loop-wide-preserved g c =
     let stranger = g.T.PlaceTest.passes c.args.strangers.now c.args.bytes.now in
