@@ -1,5 +1,5 @@
 # make          prove and build the program, on all processors
-# make demo     scan a small image, and show the report
+# make demo     scan a small image, show the report and a histogram, and scan an image that is made
 # make check    every proof, test, program and must-fail edit, and the built program
 # make install  the built program to PREFIX/bin, and its manual page
 
@@ -23,6 +23,8 @@ demo: all
 	printf '\naHR0cDovL2V4YW1wbGUuY29tL2hlbGxvLXdvcmxkLTE=\n' >> $(SCRATCH)/image
 	$(PROGRAM) scan $(SCRATCH)/image $(SCRATCH)/report
 	cd $(SCRATCH)/report && tail -n +4 url.txt domain.txt ip.txt exec.txt unread.txt
+	cd $(SCRATCH)/report && tail -n +3 domain_histogram.txt url_services_histogram.txt
+	$(PROGRAM) generate 7 4194304
 
 check:
 	.ci/run

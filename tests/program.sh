@@ -22,9 +22,11 @@ trap 'rm -rf "$scratch"' EXIT
 passed=0
 failed=0
 
-# The report files of a scan without options, histograms aside.
+# The feature files of a scan without options, and its histograms.
 FILES='url.txt domain.txt ip.txt ether.txt exec.txt unread.txt find.txt alerts.txt url_stopped.txt domain_stopped.txt
     ip_stopped.txt ether_stopped.txt exec_stopped.txt unread_stopped.txt find_stopped.txt'
+HISTOGRAMS='url_histogram.txt url_services_histogram.txt domain_histogram.txt ip_histogram.txt ether_histogram.txt
+    find_histogram.txt'
 
 # The header of a feature file.
 header() { printf '# triage feature file, format 1\n# file: %s\n# columns: path, feature, context\n' "$1"; }
@@ -44,8 +46,11 @@ both() {
     printf "$2" > "$scratch/want/$1"
 }
 
+# The histograms of a folder's feature files, by other tools.
+. "$top/tests/histograms.sh"
+
 # Says that the report must stand in this folder, with these lines of URLs and of domains, and with the
-# headers alone of all other files.
+# headers alone of all other feature files. Each report gets the histograms of its files when the case is judged.
 report() {
     local file
     mkdir -p "$scratch/want/$1"
@@ -65,8 +70,9 @@ ends() {
 
 # Judges a case that ran: its status, what it printed, and what stands in the folder.
 judge() {
-    local status=$1 got=$2 why=
+    local status=$1 got=$2 why= folder
     : > "$scratch/diff"
+    find "$scratch/want" -name alerts.txt -printf '%h\n' | while IFS= read -r folder; do histograms "$folder"; done
     [ "$got" = "$status" ] || why="status $got, not $status"
     printf -- "$3" | diff - "$scratch/stdout" >> "$scratch/diff" 2>&1 || why="$why; the text differs"
     printf "$error" | diff - "$scratch/stderr" >> "$scratch/diff" 2>&1 || why="$why; the error differs"
@@ -154,6 +160,41 @@ both image 'aaa --find'
 report out '' ''
 printf '0\taa\taaa --find\n0\taa\taaa --find\n1\taa\taaa --find\n1\taa\taaa --find\n4\t--find\taaa --find\n' >> ../want/out/find.txt
 ends 0 'done pages=1 features=5\nfind.txt 5\n' scan --find aa --find aa --find --find image out
+
+begin 'histograms: services and domains in lower case, and nothing that is stopped'
+both image 'HTTP://A.b/x http://a.B/y ftp://c.d/z'
+both stop 'http://a.B/y\nc.d\n'
+report out '0\tHTTP://A.b/x\tHTTP://A.b/x http://a.B/y ft\n26\tftp://c.d/z\t/x http://a.B/y ftp://c.d/z\n' \
+    '7\tA.b\tHTTP://A.b/x http://a.B/y \n20\ta.B\t://A.b/x http://a.B/y ftp://c.d/z\n'
+printf '13\thttp://a.B/y\tHTTP://A.b/x http://a.B/y ftp://c.d/z\n' >> ../want/out/url_stopped.txt
+printf '32\tc.d\tp://a.B/y ftp://c.d/z\n' >> ../want/out/domain_stopped.txt
+printf '# triage histogram, format 1\n# file: url_histogram.txt\nn=1\tHTTP://A.b/x\nn=1\tftp://c.d/z\n' > ../want/out/url_histogram.txt
+printf '# triage histogram, format 1\n# file: url_services_histogram.txt\nn=1\tftp://c.d\nn=1\thttp://a.b\n' > ../want/out/url_services_histogram.txt
+printf '# triage histogram, format 1\n# file: domain_histogram.txt\nn=2\ta.b\n' > ../want/out/domain_histogram.txt
+ends 0 'done pages=1 features=6\nurl.txt 2\ndomain.txt 2\nurl_stopped.txt 1\ndomain_stopped.txt 1\n' scan --stop stop image out
+
+begin 'a histogram: the larger count first, and then the smaller bytes as they are found'
+both image 'A\tA\tA\t..'
+report out '' ''
+printf '0\tA\tA\n1\t\\x09\t\\x09\n2\tA\tA\n3\t\\x09\t\\x09\n4\tA\tA\n5\t\\x09\t\\x09\n6\t.\t.\n7\t.\t.\n' >> ../want/out/find.txt
+printf '# triage histogram, format 1\n# file: find_histogram.txt\nn=3\t\\x09\nn=3\tA\nn=2\t.\n' > ../want/out/find_histogram.txt
+ends 0 'done pages=1 features=8\nfind.txt 8\n' scan --find . --find A --find $'\t' --context 0 image out
+
+# ---- images that are made
+
+# Words of `generate`, and what is printed. No file is read or written.
+while IFS='|' read -r words text; do
+    begin "the words $words"
+    ends 0 "$text" $words
+done << END
+generate 7 0|done pages=0 features=0\\n
+generate 7 1|done pages=1 features=0\\n
+generate 7 4095|done pages=1 features=2\\nurl.txt 1\\ndomain.txt 1\\n
+generate --page 512 7 65536|done pages=128 features=28\\nurl.txt 8\\ndomain.txt 8\\nip.txt 4\\nether.txt 4\\nexec.txt 2\\nunread.txt 2\\n
+generate 18446744073709551615 32768|done pages=1 features=14\\nurl.txt 4\\ndomain.txt 4\\nip.txt 2\\nether.txt 2\\nexec.txt 1\\nunread.txt 1\\n
+END
+
+# ---- folders and names
 
 begin 'a folder whose parents are missing'
 both image "$SEE"
@@ -395,8 +436,7 @@ while IFS='|' read -r words text; do
     begin "the words $words"
     ends 15 "not yet: $text\n" $words
 done << END
-generate 7 0|generate
-generate --log 7 0|generate
+generate --log 7 0|log
 scan --log a b o|parts
 scan --log i o|log
 scan --stop none i --log o|parts
@@ -454,7 +494,7 @@ linked() {
 }
 
 # A full disk refuses the bytes; a file of the process's name takes them and can't be synced.
-for file in $FILES; do
+for file in $FILES $HISTOGRAMS; do
     [ -c /dev/full ] && linked "$file" /dev/full
     [ -w /proc/self/comm ] && linked "$file" /proc/self/comm
 done

@@ -1,4 +1,5 @@
 pub mod Calls
+pub mod Content
 pub mod Entries
 pub mod MemSink
 pub mod MemSource

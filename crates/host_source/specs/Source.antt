@@ -12,6 +12,10 @@ pub record SourceNature : Type 0 where
   pub held : Option (List ℕ → Option (List ℕ))
   pub may_attach : List ℕ → Bool
 
+-- the same names may be asked for, and nothing is told of what they hold
+abbrev pub untold : SourceNature → SourceNature
+untold nature = record { held = None; may_attach = nature.may_attach }
+
 -- the bytes under a name, where the source tells them
 abbrev pub told : SourceNature → List ℕ → Option (List ℕ)
 told nature name = option_and_then (λ held. held name) nature.held

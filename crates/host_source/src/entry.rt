@@ -1,6 +1,7 @@
-// A name with its bytes, and what is read of the bytes.
-ghost use Rattle.std.specs.Prelude.{◌≡◌, ◌+◌, ◌^◌, ◌<◌, ◌≤◌, length, take, drop, IfOk};
+// A name with its bytes.
+ghost use Rattle.std.specs.Prelude.{◌≡◌, ◌^◌, ◌<◌, length, replicate, IfOk};
 
+use crate::content::Content;
 use byte_kit::{Bytes, Name, NoMemory};
 use std::alloc::Global;
 
@@ -8,7 +9,7 @@ use std::alloc::Global;
 #[derive(Drop)]
 pub struct Entry {
     pub name: Name,
-    pub bytes: Bytes,
+    pub bytes: Content,
     ghost small: { length bytes < 2 ^ 57 },
 }
 
@@ -21,7 +22,19 @@ impl Entry {
     {
         Ok(Entry {
             name: Name::copy(alloc, name)?,
-            bytes: Bytes::copy(alloc, bytes)?,
+            bytes: Content::from(Bytes::copy(alloc, bytes)?),
+        })
+    }
+
+    // A copy of the name, with one byte so many times. Its one refusal is want of memory.
+    pub fn filled(alloc: Global, name: &str, size: u64, fill: u8) -> Result<Entry, NoMemory>
+        requires { size < 2 ^ 57 }
+        ensures name { IfOk result (λ entry. entry.name ≡ name.now) }
+        ensures bytes { IfOk result (λ entry. entry.bytes ≡ replicate size fill) }
+    {
+        Ok(Entry {
+            name: Name::copy(alloc, name)?,
+            bytes: Content::filled(size, fill),
         })
     }
 
@@ -29,16 +42,6 @@ impl Entry {
     pub fn size(&self) -> u64
         ensures { result ≡ length self.now.bytes }
     {
-        self.bytes.as_slice().len() as u64
+        self.bytes.size()
     }
-}
-
-// Fills `into` with the bytes from place `at` on.
-pub fn copy_from(bytes: &[u8], at: u64, into: &mut [u8])
-    requires { at + length into.old ≤ length bytes.now }
-    ensures { into.new ≡ take (length into.new) (drop at bytes.now) }
-{
-    let (_, rest) = bytes.split_at(at as usize);
-    let (front, _) = rest.split_at(into.len());
-    into.copy_from_slice(front);
 }

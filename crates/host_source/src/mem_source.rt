@@ -1,12 +1,12 @@
 // A source in memory, for tests: it tells what it holds, and fails where it is told to.
-ghost use Rattle.std.specs.Prelude.{◌≡◌, ◌^◌, ◌<◌, ◌⊎◌, ◌↔◌, ℕ, length, None, IsErr, IfOk, OnOk, OnErr, position};
+ghost use Rattle.std.specs.Prelude.{◌≡◌, ◌^◌, ◌<◌, ◌⊎◌, ◌↔◌, ℕ, length, replicate, None, IsErr, IfOk, OnOk, OnErr, position};
 ghost use Rattle.byte_kit.specs.Calls.{no_calls, with_failing};
 ghost use Rattle.byte_kit.specs.Counts.{CountsFault};
 ghost use Rattle.host_source.specs.Calls.{IsDue, IsCall};
 ghost use Rattle.host_source.specs.Source.{told, HoldsNothing, AddsName, IsDetached, Attaches, IsWithin, Reads};
 ghost use Rattle.host_source.specs.Entries.{is_named, AreApart, PointInside};
 
-use crate::entry::{Entry, copy_from};
+use crate::entry::Entry;
 use crate::{Source, SourceFault};
 use byte_kit::{Calls, NoMemory};
 use std::alloc::Global;
@@ -59,6 +59,22 @@ impl MemSource {
         ensures calls { mem_calls self.new ≡ mem_calls self.old }
     {
         let entry = Entry::copy(self.alloc, name, bytes)?;
+        self.entries.push(entry)?;
+        Ok(())
+    }
+
+    /// Adds a name that isn't there yet, which holds one byte so many times. The bytes themselves are not
+    /// kept, so there may be more of them than memory holds. It is no call of the trait. Refused for want
+    /// of memory, it adds none.
+    pub fn add_filled(&mut self, name: &str, size: u64, fill: u8) -> Result<(), NoMemory>
+        requires absent { told (mem_nature self.old) name.now ≡ None }
+        requires small { size < 2 ^ 57 }
+        ensures added { OnOk result (AddsName (mem_nature self.old) (mem_nature self.new) name.now (replicate size fill)) }
+        ensures same { OnErr result (mem_nature self.new ≡ mem_nature self.old) }
+        ensures slots { (slot : ℕ) → mem_slots self.new slot ≡ mem_slots self.old slot }
+        ensures calls { mem_calls self.new ≡ mem_calls self.old }
+    {
+        let entry = Entry::filled(self.alloc, name, size, fill)?;
         self.entries.push(entry)?;
         Ok(())
     }
@@ -140,7 +156,7 @@ impl Source for MemSource {
         let bytes = into.len() as u64;
         begin(&mut self.calls, SourceCall::Read { slot, at, bytes })?;
         let place = self.places[slot as usize].unwrap();
-        copy_from(self.entries[place].bytes.as_slice(), at, into);
+        self.entries[place].bytes.read_at(at, into);
         Ok(())
     }
 }

@@ -2,7 +2,7 @@
 ghost use Rattle.std.specs.Prelude.{◌^◌, ◌<◌, length};
 ghost use Rattle.host_source.specs.Source.{HoldsOnly, IsDetached};
 
-use crate::entry::copy_from;
+use crate::content::copy_from;
 use crate::{Source, SourceFault};
 
 /// Lent bytes under the one name that may be asked for. Its count of faults is 0 for ever.

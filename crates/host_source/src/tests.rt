@@ -2,7 +2,9 @@ ghost use Rattle.std.specs.Prelude.{◌≡◌, ◌+◌, ◌<◌, ◌≤◌, leng
 ghost use Rattle.host_source.specs.MemSource.{mem_slots};
 ghost use Rattle.host_source.specs.Source.{IsDetached, MayAttachAll, told};
 
-use crate::{MemSink, MemSource, Sink, SinkFault, Source, SourceCall, SourceFault, SureSource};
+use crate::{
+    MemSink, MemSource, Sink, SinkFault, Source, SourceCall, SourceFault, SureSource, Untold,
+};
 use byte_kit::NoMemory;
 use std::alloc::Global;
 use std::test::Fail;
@@ -101,6 +103,29 @@ fn attach_gives_the_size_and_a_read_in_the_middle_its_bytes(rt: HostRuntime) -> 
 fn a_sure_source_is_read_in_the_middle(rt: HostRuntime) -> Result<(), Fail> {
     let sure = SureSource::of("disk.raw", b"abcdefgh");
     assert!(rt; four_of(sure, 63, "disk.raw", 4)? == (8, *b"efgh"));
+    Ok(())
+}
+
+// A source that holds a name of 2^40 bytes.
+fn filled(alloc: Global) -> Result<MemSource, NoMemory>
+    ensures { IfOk result (λ source. IsDetached (mem_slots source)) }
+{
+    let mut source = MemSource::make(alloc);
+    source.add_filled("disk.raw", 1 << 40, b'z')?;
+    Ok(source)
+}
+
+#[test]
+fn a_filled_name_holds_one_byte_so_many_times(rt: HostRuntime) -> Result<(), Fail> {
+    let source = filled(rt.alloc())?;
+    assert!(rt; four_of(source, 0, "disk.raw", (1 << 40) - 4)? == (1 << 40, *b"zzzz"));
+    Ok(())
+}
+
+#[test]
+fn an_untold_source_is_read_like_its_own(rt: HostRuntime) -> Result<(), Fail> {
+    let untold = Untold(two_names(rt.alloc())?);
+    assert!(rt; four_of(untold, 0, "disk.raw", 3)? == (10, *b"3456"));
     Ok(())
 }
 

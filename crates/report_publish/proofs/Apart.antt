@@ -1,32 +1,15 @@
 -- No two files of a report have one number.
 use Rattle.std.proofs.Common.{◌≡◌, ◌≢◌, ◌<◌, ◌⊎◌, ℕ, Bool, true, false, not, ◌&&◌, cond, nat_eq, List, [], ◌∷◌, length, filter, get_or, refl, sym, ◌∙◌, inl, inr, arith, eq-eqb}
-use Rattle.std.specs.List.{AllByRecursion, IsDistinct, list_all}
+use Rattle.std.specs.List.{IsDistinct, list_all}
 use Rattle.std.proofs.Math.ListN.{get_or-map}
 use Rattle.std.proofs.lemmas.List.{length-map}
 use Rattle.std.proofs.lemmas.List.Recursion.{or_at}
 use Rattle.std.proofs.lemmas.Map.Keys.{apart_from_distinct, IsDistinct-head, IsDistinct-tail, IsDistinct-cons}
 use Rattle.byte_kit.specs.Classes.{is_one_of}
 use Rattle.report_publish.specs.declared.open_file.OpenFile.{OpenFile}
-use Rattle.report_publish.specs.declared.publish.TheConstants.{FILES_BUILT}
+use Rattle.report_publish.specs.declared.publish.TheConstants.{FEATURE_FILES}
 use Rattle.report_publish.specs.OpenFile.{numbers}
-
-not_true : (b : Bool) → not b ≡ true → b ≡ false
-not_true true e = cc
-not_true false e = refl
-
-and_left : (a b : Bool) → (a && b) ≡ true → a ≡ true
-and_left true b e = refl
-and_left false b e = e
-
-and_right : (a b : Bool) → (a && b) ≡ true → b ≡ true
-and_right true b e = e
-and_right false b e = cc
-
-all_filter : (P : ℕ → Type 0) (p : ℕ → Bool) (xs : List ℕ) → AllByRecursion P xs → AllByRecursion P (filter p xs)
-all_filter P p [] all = all
-all_filter P p (x ∷ xs) all =
-    elim (p x) as (λ b. AllByRecursion P (cond b (x ∷ filter p xs) (filter p xs)))
-    [ true ↦ (all.0, all_filter P p xs all.1) | false ↦ all_filter P p xs all.1 ]
+use Rattle.report_publish.proofs.Members.{and_left, and_right, false_is_not_true, all_filter, none_pass}
 
 -- what a filter keeps of different numbers are different numbers
 pub distinct_filter : (p : ℕ → Bool) (xs : List ℕ) → IsDistinct nat_eq xs → IsDistinct nat_eq (filter p xs)
@@ -43,17 +26,13 @@ abbrev all_differ : List ℕ → Bool
 all_differ [] = true
 all_differ (x ∷ xs) = list_all (λ (y : ℕ). not (nat_eq x y)) xs && all_differ xs
 
-differ_at : (x : ℕ) (xs : List ℕ) → list_all (λ (y : ℕ). not (nat_eq x y)) xs ≡ true → AllByRecursion (λ y. nat_eq x y ≡ false) xs
-differ_at x [] all = tt
-differ_at x (y ∷ xs) all = (not_true (nat_eq x y) (and_left _ _ all), differ_at x xs (and_right _ _ all))
-
 distinct_where : (xs : List ℕ) → all_differ xs ≡ true → IsDistinct nat_eq xs
 unfolding IsDistinct
 distinct_where [] all = tt
-distinct_where (x ∷ xs) all = (differ_at x xs (and_left _ _ all), distinct_where xs (and_right _ _ all))
+distinct_where (x ∷ xs) all = (none_pass (nat_eq x) xs (and_left _ _ all), distinct_where xs (and_right _ _ all))
 
-pub built_apart : IsDistinct nat_eq FILES_BUILT
-built_apart = distinct_where FILES_BUILT refl
+pub built_apart : IsDistinct nat_eq FEATURE_FILES
+built_apart = distinct_where FEATURE_FILES refl
 
 number_at : (open_files : List OpenFile) (i : ℕ) (d : OpenFile) → get_or (numbers open_files) i d.number ≡ (get_or open_files i d).number
 number_at open_files i d = get_or-map (λ (f : OpenFile). f.number) open_files i d
@@ -66,9 +45,6 @@ same_test open_files i k d same =
 
 apart_places : (i k : ℕ) → k ≢ i → (i < k) ⊎ (k < i)
 apart_places i k other = grind arith
-
-false_is_not_true : false ≡ true → ⊥
-false_is_not_true e = cc
 
 -- two places of the list have different numbers
 pub other_number :

@@ -1,6 +1,11 @@
 pub mod Texts
+pub mod Members
 pub mod Apart
 pub mod Steps
 pub mod Built
+pub mod Histograms
+pub mod Items
 pub mod Puts
 pub mod Whole
+pub mod Report
+pub mod ForCallers

@@ -7,8 +7,7 @@ use Rattle.host_disk.specs.Files.{Files}
 use Rattle.feature_file.specs.FeatureFile.{file_text}
 use Rattle.report_publish.specs.declared.fault.PublishFault.{PublishFault}
 use Rattle.report_publish.specs.declared.open_file.OpenFile.{OpenFile}
-use Rattle.report_publish.specs.OpenFile.{numbers, IsFresh, HasLines}
-use Rattle.report_publish.specs.Publish.{HaveTexts}
+use Rattle.report_publish.specs.OpenFile.{numbers, IsFresh, HasLines, AreFeatureFiles}
 use Rattle.report_publish.proofs.Texts.{text_none}
 
 -- a file that is cut, with its header in the piece, has no line yet
@@ -26,7 +25,7 @@ written_file files items f empty has =
     sym (append-nil (files f.number)) ∙ ap (λ piece. files f.number ++ piece) (sym empty) ∙ has
 
 all_written : (items : List Classed) (files : Files) (open_files : List OpenFile) →
-    All (λ f. f.piece.items ≡ []) open_files → All (HasLines files items) open_files → HaveTexts (numbers open_files) items files
+    All (λ f. f.piece.items ≡ []) open_files → All (HasLines files items) open_files → AreFeatureFiles (numbers open_files) items files
 all_written items files open_files emptied lines =
     recursion_from_All (λ file. files file ≡ file_text file items) (numbers open_files)
     (All-map (λ file. files file ≡ file_text file items) (λ (f : OpenFile). f.number) open_files
@@ -36,8 +35,8 @@ all_written items files open_files emptied lines =
 pub texts_stand :
     (result : Result (Unit {0}) PublishFault) (items : List Classed) (files now : Files) (open_files : List OpenFile) (named : List ℕ) →
     now ≡ files → numbers open_files ≡ named → All (λ f. f.piece.items ≡ []) open_files → All (HasLines files items) open_files →
-    OnOk result (HaveTexts named items now)
+    OnOk result (AreFeatureFiles named items now)
 texts_stand (Ok x) items files now open_files named same is emptied lines =
-    subst (λ (files : Files). HaveTexts named items files) (sym same)
-    (subst (λ (numbers : List ℕ). HaveTexts numbers items files) is (all_written items files open_files emptied lines))
+    subst (λ (files : Files). AreFeatureFiles named items files) (sym same)
+    (subst (λ (numbers : List ℕ). AreFeatureFiles numbers items files) is (all_written items files open_files emptied lines))
 texts_stand (Err e) items files now open_files named same is emptied lines = tt

@@ -1,3 +1,4 @@
 pub mod Faults
 pub mod OpenFile
 pub mod Publish
+pub mod RowLines

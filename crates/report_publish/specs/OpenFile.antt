@@ -1,6 +1,6 @@
 -- A report file while it is written: its first bytes stand on the disk, and the next ones in its piece.
 use Rattle.std.specs.Prelude.{◌≡◌, ℕ, ◌^◌, ◌<◌, Bool, IsTrue, List, [], ◌∷◌, ◌++◌, length, map}
-use Rattle.std.specs.List.{All}
+use Rattle.std.specs.List.{All, AllByRecursion}
 use Rattle.forensic_path.specs.declared.feature.Classed.{Classed}
 use Rattle.host_disk.specs.Files.{Files}
 use Rattle.feature_file.specs.FeatureFile.{header_of, file_text}
@@ -36,6 +36,10 @@ EachGainsLine before now item old new =
 -- where all files had their texts for a list, they have them still
 abbrev pub EachKeepsLines : Files → Files → List OpenFile → List OpenFile → Type 0
 EachKeepsLines before now old new = (list : List Classed) → All (HasLines before list) old → All (HasLines now list) new
+
+-- each of the files with these numbers has the text of a feature file for the list
+abbrev pub AreFeatureFiles : List ℕ → List Classed → Files → Type 0
+AreFeatureFiles numbers list files = AllByRecursion (λ file. files file ≡ file_text file list) numbers
 
 -- nothing of the file stands on the disk yet, and its header in the piece
 pub record IsFresh (f : OpenFile) : Type 0 where

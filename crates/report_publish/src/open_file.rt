@@ -12,9 +12,10 @@ use forensic_path::Classed;
 use host_disk::Disk;
 use std::alloc::Global;
 
-// The most bytes of a piece, unless a single line is longer. A larger one takes memory that is touched for
-// the first time, which costs more than the calls that it saves.
-const PIECE_MOST: usize = 1 << 17;
+// The most bytes of a piece, unless a single line is longer. A piece's room at most doubles as it grows, so
+// those of all feature files together take about 1 MiB, and a write of 32 KiB costs little more a byte than a
+// larger one.
+const PIECE_MOST: usize = 1 << 15;
 
 // The least length in bytes that a disk's file can't have.
 const FILE_END: u64 = 1 << 62;
@@ -70,7 +71,7 @@ impl OpenFile {
     }
 
     // Appends bytes to the piece. Where they would make it too long, it is written first.
-    fn append<D: Disk>(&mut self, disk: &mut D, bytes: &[u8]) -> Result<(), PublishFault>
+    pub(crate) fn append<D: Disk>(&mut self, disk: &mut D, bytes: &[u8]) -> Result<(), PublishFault>
         requires open { D.mounted disk.old ≡ true }
         requires placed { IsPlaced (D.nature disk.old).tells (D.files disk.old) self.old }
         ensures same { D.nature disk.new ≡ D.nature disk.old }

@@ -1,26 +1,37 @@
 // The report of a list of features.
-ghost use Rattle.std.specs.Prelude.{◌≡◌, ◌<◌, ℕ, [], IsTrue, IfOk, OnOk, nat_eq, true, false};
-ghost use Rattle.std.specs.List.{All, IsDistinct};
+ghost use Rattle.std.specs.Prelude.{◌≡◌, ℕ, IsTrue, OnOk, true, false};
 ghost use Rattle.byte_kit.specs.Classes.{is_one_of};
 ghost use Rattle.report_publish.specs.Faults.{HasPublishCause};
-ghost use Rattle.report_publish.specs.OpenFile.{numbers, IsFresh, IsPlaced, EachKeepsLines};
-ghost use Rattle.report_publish.specs.Publish.{files_for, is_for, HaveTexts, AreWritten};
+ghost use Rattle.report_publish.specs.Publish.{histograms_for, is_for, HaveTexts, AreWritten};
 
 use crate::fault::PublishFault;
-use crate::lines::add_lines;
-use crate::open_file::OpenFile;
-use byte_kit::NoMemory;
+use crate::features::write_features;
+use crate::histogram::write_histogram;
+use count_histogram::Rule;
 use feature_file::is_written;
 use forensic_path::Classed;
 use host_disk::Disk;
 use std::alloc::Global;
 
-/// The numbers of the report files that are built, in the order in which they are cut and synced.
-pub const FILES_BUILT: [u32; 17] = [1, 2, 3, 4, 5, 6, 7, 8, 9, 11, 12, 13, 14, 15, 16, 17, 18];
+/// The numbers of the feature files, in the order in which they are cut and synced: those of the kinds, the
+/// alerts, and those of the kinds' stopped features.
+pub const FEATURE_FILES: [u32; 17] = [1, 2, 3, 4, 5, 6, 7, 8, 9, 11, 12, 13, 14, 15, 16, 17, 18];
 
-/// Writes the report of the features to a mounted disk: each file that is built and wanted by the
-/// scanners (`files_for`) is cut, gets its text for the items (`file_text`: the header, and the lines in
-/// the items' order), and is synced. `scanners` has a bit for each scanner that is on.
+/// The histograms, in the order in which they are written behind the feature files.
+pub const HISTOGRAMS: [Rule; 6] = [
+    Rule::Url,
+    Rule::Service,
+    Rule::Domain,
+    Rule::Ip,
+    Rule::Ether,
+    Rule::Find,
+];
+
+/// Writes the report of the features to a mounted disk: each file that is wanted by the scanners
+/// (`files_for`) is cut, gets its text for the items (`report_text`: a feature file its header and the lines
+/// in the items' order, a histogram its header and its rows), and is synced. `scanners` has a bit for each
+/// scanner that is on. Feature files stand before the first histogram is cut, and each histogram before the
+/// next.
 ///
 /// `Disk` says that a call of the disk failed, and no call is made behind it; `NoMemory` says that room
 /// was wanting, or that a file would have 2^62 bytes or more. After a refusal the files of the report hold
@@ -38,94 +49,28 @@ pub fn publish_items<D: Disk>(
     ensures others { IsTrue (D.nature disk.old).tells → (file : ℕ) → is_for scanners file ≡ false → D.files disk.new file ≡ D.files disk.old file }
     ensures cause { HasPublishCause (D.faults disk.old) (D.faults disk.new) result }
 {
-    let mut open_files = open_all(alloc, scanners)?;
-    write_all(alloc, disk, open_files.as_mut_slice(), items)
+    write_features(alloc, disk, items, scanners)?;
+    write_histograms(alloc, disk, items, scanners)
 }
 
-// The files of the report, each with its header to be written.
-fn open_all(alloc: Global, scanners: u16) -> Result<Vec<OpenFile>, NoMemory>
-    ensures numbers { IfOk result (λ open_files. numbers open_files.items ≡ files_for scanners) }
-    ensures apart { IfOk result (λ open_files. IsDistinct nat_eq (numbers open_files.items)) }
-    ensures fresh { IfOk result (λ open_files. All IsFresh open_files.items) }
-{
-    let mut open_files = Vec::new(alloc);
-    for number in FILES_BUILT {
-        if is_written(number, scanners) {
-            open_files.push(OpenFile::make(alloc, number)?)?;
-        }
-    }
-    Ok(open_files)
-}
-
-// Writes the texts of fresh files: cuts them, gathers the lines, writes what is left, and syncs.
-fn write_all<D: Disk>(
+// Writes the histograms of the report, one after another.
+fn write_histograms<D: Disk>(
     alloc: Global,
     disk: &mut D,
-    open_files: &mut [OpenFile],
     items: &[Classed],
+    scanners: u16,
 ) -> Result<(), PublishFault>
     requires open { D.mounted disk.old ≡ true }
-    requires apart { IsDistinct nat_eq (numbers open_files.old) }
-    requires fresh { All IsFresh open_files.old }
     ensures same { D.nature disk.new ≡ D.nature disk.old }
     ensures stays { D.mounted disk.new ≡ true }
-    ensures written { IsTrue (D.nature disk.old).tells → OnOk result (HaveTexts (numbers open_files.old) items.now (D.files disk.new)) }
-    ensures others { IsTrue (D.nature disk.old).tells → (file : ℕ) → is_one_of (numbers open_files.old) file ≡ false → D.files disk.new file ≡ D.files disk.old file }
+    ensures written { IsTrue (D.nature disk.old).tells → OnOk result (HaveTexts (histograms_for scanners) items.now (D.files disk.new)) }
+    ensures others { IsTrue (D.nature disk.old).tells → (file : ℕ) → is_one_of (histograms_for scanners) file ≡ false → D.files disk.new file ≡ D.files disk.old file }
     ensures cause { HasPublishCause (D.faults disk.old) (D.faults disk.new) result }
 {
-    cut_all(disk, open_files)?;
-    add_lines(alloc, disk, open_files, items)?;
-    flush_all(disk, open_files)?;
-    sync_all(disk, open_files)
-}
-
-// Cuts all files to nothing.
-fn cut_all<D: Disk>(disk: &mut D, open_files: &[OpenFile]) -> Result<(), PublishFault>
-    requires open { D.mounted disk.old ≡ true }
-    requires numbers { All (λ f. f.number < 64) open_files.now }
-    ensures same { D.nature disk.new ≡ D.nature disk.old }
-    ensures stays { D.mounted disk.new ≡ true }
-    ensures empty { IsTrue (D.nature disk.old).tells → OnOk result (All (λ f. D.files disk.new f.number ≡ []) open_files.now) }
-    ensures others { IsTrue (D.nature disk.old).tells → (file : ℕ) → is_one_of (numbers open_files.now) file ≡ false → D.files disk.new file ≡ D.files disk.old file }
-    ensures cause { HasPublishCause (D.faults disk.old) (D.faults disk.new) result }
-{
-    for file in open_files {
-        disk.cut(file.number, 0)?;
-    }
-    Ok(())
-}
-
-// Writes what is left in the pieces.
-fn flush_all<D: Disk>(disk: &mut D, open_files: &mut [OpenFile]) -> Result<(), PublishFault>
-    requires open { D.mounted disk.old ≡ true }
-    requires apart { IsDistinct nat_eq (numbers open_files.old) }
-    requires placed { All (IsPlaced (D.nature disk.old).tells (D.files disk.old)) open_files.old }
-    ensures same { D.nature disk.new ≡ D.nature disk.old }
-    ensures stays { D.mounted disk.new ≡ true }
-    ensures numbers { numbers open_files.new ≡ numbers open_files.old }
-    ensures small { OnOk result (All (λ f. f.number < 64) open_files.new) }
-    ensures emptied { OnOk result (All (λ f. f.piece.items ≡ []) open_files.new) }
-    ensures lines { IsTrue (D.nature disk.old).tells → OnOk result (EachKeepsLines (D.files disk.old) (D.files disk.new) open_files.old open_files.new) }
-    ensures others { IsTrue (D.nature disk.old).tells → (file : ℕ) → is_one_of (numbers open_files.old) file ≡ false → D.files disk.new file ≡ D.files disk.old file }
-    ensures cause { HasPublishCause (D.faults disk.old) (D.faults disk.new) result }
-{
-    for file in open_files.iter_mut() {
-        file.flush(disk)?;
-    }
-    Ok(())
-}
-
-// Makes sure of all files.
-fn sync_all<D: Disk>(disk: &mut D, open_files: &[OpenFile]) -> Result<(), PublishFault>
-    requires open { D.mounted disk.old ≡ true }
-    requires numbers { All (λ f. f.number < 64) open_files.now }
-    ensures same { D.nature disk.new ≡ D.nature disk.old }
-    ensures stays { D.mounted disk.new ≡ true }
-    ensures files { D.files disk.new ≡ D.files disk.old }
-    ensures cause { HasPublishCause (D.faults disk.old) (D.faults disk.new) result }
-{
-    for file in open_files {
-        disk.sync(file.number)?;
+    for rule in HISTOGRAMS {
+        if is_written(rule.file(), scanners) {
+            write_histogram(alloc, disk, items, rule)?;
+        }
     }
     Ok(())
 }

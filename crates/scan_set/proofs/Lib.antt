@@ -11,3 +11,4 @@ pub mod Given
 pub mod Levels
 pub mod Made
 pub mod Fitting
+pub mod SameLooks

@@ -6,3 +6,4 @@ pub mod Merged
 pub mod Events
 pub mod Fits
 pub mod Lawful
+pub mod Laws

@@ -13,7 +13,8 @@
 //! which is scanned like the first one, a level deeper, up to `DEPTH_MOST` levels. A view, where each byte is
 //! XORed with the plan's mask, is judged a level deeper too, and is taken once on the way from the image.
 //! The features of a place itself come first, then those in what is decoded there, and those of its view
-//! last.
+//! last. Two places whose Looks are equal have the same features, but for their first place
+//! (`same_looks_same_features`).
 //!
 //! Each search lists the marks or the starts of texts of a run of places, in order of place
 //! (`specs/Marks.antt`, `specs/Decoders.antt`). As events (`specs/Events.antt`) they are merged by place
@@ -23,6 +24,7 @@
 
 mod event;
 mod feature;
+mod laws;
 mod level;
 mod merge;
 mod nest;
@@ -31,6 +33,7 @@ mod scan;
 mod search;
 mod tools;
 
+pub use laws::same_looks_same_features;
 pub use plan::{DEPTH_MOST, ScanPlan};
 pub use scan::scan_owned;
 pub use tools::Tools;

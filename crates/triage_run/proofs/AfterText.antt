@@ -6,7 +6,7 @@ use Rattle.triage_run.specs.declared.status.Status.TheVariants.{Done, Usage, Lis
 use Rattle.triage_run.specs.declared.status.List.{List as ListName}
 use Rattle.triage_run.specs.declared.status.List.TheVariants.{Stop, Alert}
 use Rattle.triage_run.specs.declared.status.Unbuilt.{Unbuilt}
-use Rattle.triage_run.specs.declared.status.Unbuilt.TheVariants.{Generate, Parts, Log, Size}
+use Rattle.triage_run.specs.declared.status.Unbuilt.TheVariants.{Parts, Log, Size}
 use Rattle.triage_run.specs.Case.{Case}
 use Rattle.triage_run.specs.Call.{Call, case_of, found_text, IsCause, IsExact, HasLists, HasReadings, HasParts, HasFound}
 use Rattle.triage_run.proofs.Grown.{grown, cause_grown}
@@ -15,7 +15,7 @@ use Rattle.triage_run.specs.Steps.{any, alert_size, build, attach, end}
 use Rattle.triage_run.specs.Words.{unbuilt_of}
 use Rattle.scan_settings.specs.declared.fault.BadWord.{BadWord}
 use Rattle.scan_settings.specs.declared.words.Command.{Command}
-use Rattle.report_publish.specs.declared.publish.TheConstants.{FILES_BUILT}
+use Rattle.report_publish.specs.declared.publish.TheConstants.{FEATURE_FILES}
 use Rattle.triage_run.specs.Text.{Counts, counts_of, counts_text, counts_told, line_of, text_of, IsPut, IsPutInPart}
 
 -- what holds of the status of a scan, of want of memory, and of a sink that failed behind a scan that was done
@@ -68,7 +68,6 @@ module _ {R : Type 0} (call : Call R) (rose : Type 0) (takes : List ℕ → Type
 
       form_after : (form : Option Unbuilt) → IfSome form (λ what. IsOrEarlier (NotYet what) scanned) → IfSome form (λ what. IsOrEarlier (NotYet what) status)
       form_after None hidden = tt
-      form_after (Some Generate) hidden = or_earlier_after rose (NotYet Generate) scanned status (omega arith) (omega arith) ends hidden
       form_after (Some Parts) hidden = or_earlier_after rose (NotYet Parts) scanned status (omega arith) (omega arith) ends hidden
       form_after (Some Log) hidden = or_earlier_after rose (NotYet Log) scanned status (omega arith) (omega arith) ends hidden
       form_after (Some (Size bytes)) hidden = or_earlier_after rose (NotYet (Size bytes)) scanned status (omega arith) (omega arith) ends hidden
@@ -102,7 +101,7 @@ text_after {R = R} call rose takes scanned status refused ends found put = by_ca
   where
     by_case : (told : Option (Case R)) (scanned : Result Counts Status) (status : Status) →
         IfErr scanned IsRefusal → EndsAs rose (scanned_as scanned) status →
-        IfOk scanned (λ found. IfSome told (λ c. found ≡ counts_of call.matches FILES_BUILT c)) →
+        IfOk scanned (λ found. IfSome told (λ c. found ≡ counts_of call.matches FEATURE_FILES c)) →
         IfSome (text_of (counts_told scanned) status) (IsPut takes rose status) →
         IfSome (text_of (option_map (found_text call) told) status) (IsPut takes rose status)
     by_case None (Ok found) Done refused ends is put = tt

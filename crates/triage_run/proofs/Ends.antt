@@ -16,15 +16,18 @@ use Rattle.triage_run.specs.declared.status.List.{List as ListName}
 use Rattle.triage_run.specs.declared.status.List.TheVariants.{Stop, Alert}
 use Rattle.triage_run.specs.declared.status.ReadPlace.TheVariants.{StopList, AlertList, Image, Page}
 use Rattle.triage_run.specs.declared.status.Unbuilt.{Unbuilt}
-use Rattle.triage_run.specs.declared.status.Unbuilt.TheVariants.{Generate, Parts, Log, Size}
+use Rattle.triage_run.specs.declared.status.Unbuilt.TheVariants.{Parts, Log, Size}
 use Rattle.triage_run.specs.declared.words.Scan.{Scan}
-use Rattle.triage_run.specs.Call.{Call, IsBuilt, IsTooLong, IsTooLarge, HasPage, case_told, HasReport, IsCause, IsExact, HasFound, Scanned}
-use Rattle.triage_run.specs.Case.{joined, LeavesReport}
+use Rattle.triage_run.specs.declared.words.Generate.{Generate}
+use Rattle.triage_run.specs.declared.words.Task.{Task}
+use Rattle.triage_run.specs.declared.words.Task.TheVariants.{Scan as ScanTask, Generate as GenerateTask}
+use Rattle.triage_run.specs.Call.{Call, IsBuilt, IsTooLong, IsTooLarge, HasPage, case_told, case_in, HasReport, IsCause, IsExact, HasFound, Scanned}
+use Rattle.triage_run.specs.Case.{joined, case_made, LeavesReport}
 use Rattle.triage_run.specs.Lists.{lists_of, AreListed, AreEntries, ListFits, IsListsEnd}
 use Rattle.triage_run.specs.Part.{items_under, WritesPart, CountsPart, PartHasPage, IsPartEnd}
 use Rattle.triage_run.proofs.WholeReport.{report_told, counts_told}
 use Rattle.stop_lists.specs.Lists.{ListEntries}
-use Rattle.report_publish.specs.declared.publish.TheConstants.{FILES_BUILT}
+use Rattle.report_publish.specs.declared.publish.TheConstants.{FEATURE_FILES}
 use Rattle.triage_run.specs.Sources.{AreAttached}
 use Rattle.triage_run.specs.Patterns.{AreRead, IsBuildEnd}
 use Rattle.triage_run.specs.Sizes.{IsSize, Fits, IsSizeAbove}
@@ -32,12 +35,11 @@ use Rattle.triage_run.specs.Status.{step_of, IsOrEarlier, IsBehind, scanned_as}
 use Rattle.triage_run.specs.Steps.{any, words, form, alert_size, attach, size}
 use Rattle.triage_run.specs.Text.{Counts, counts_of}
 use Rattle.triage_run.specs.declared.scan.TheConstants.{IMAGE_MOST}
-use Rattle.triage_run.specs.Words.{scan_in, scan_of, unbuilt_in, unbuilt_of, IsWordsEnd}
+use Rattle.triage_run.specs.Words.{task_in, task_of, scan_in, scan_of, patterns_in, unbuilt_in, unbuilt_of, IsWordsEnd}
 
 -- ---- steps
 
 form_step : (what : Unbuilt) → any < step_of (NotYet what)
-form_step Generate = omega arith
 form_step Parts = omega arith
 form_step Log = omega arith
 form_step (Size bytes) = omega arith
@@ -47,7 +49,6 @@ list_step Stop bytes = omega arith
 list_step Alert bytes = omega arith
 
 words_step : (what : Unbuilt) → words < step_of (NotYet what)
-words_step Generate = omega arith
 words_step Parts = omega arith
 words_step Log = omega arith
 words_step (Size bytes) = omega arith
@@ -66,6 +67,11 @@ size_is_one (Some bytes) slot a b is_a is_b = is_a ∙ sym is_b
 size_is_one None (Some s) a b is_a is_b = is_a ∙ sym is_b
 size_is_one None None a b is_a is_b = absurd is_a
 
+-- what isn't there has no size
+unsized : (told : Option (List ℕ)) (slot : Option Slot) (size : ℕ) → told ≡ None → slot ≡ None → IsSize told slot size → ⊥
+unsized told slot size no_bytes no_slot is =
+    subst (λ (slot : Option Slot). IsSize None slot size) no_slot (subst (λ (told : Option (List ℕ)). IsSize told slot size) no_bytes is)
+
 -- no command has a size
 no_size : (command : Result Command BadWord) (bytes : ℕ) → unbuilt_of command ≡ Some (Size bytes) → ⊥
 no_size (Ok command) bytes is = of_command command is
@@ -75,8 +81,12 @@ no_size (Ok command) bytes is = of_command command is
     of_scan false true is = cc
     of_scan false false is = cc
 
+    of_made : (log : Bool) → (if log then Some Log else None) ≡ Some (Size bytes) → ⊥
+    of_made true is = cc
+    of_made false is = cc
+
     of_command : (command : Command) → unbuilt_in command ≡ Some (Size bytes) → ⊥
-    of_command (GenerateCommand settings seed size) is = cc
+    of_command (GenerateCommand settings seed size) is = of_made settings.with_log is
     of_command (ScanCommand settings parts place) is = of_scan (nat_lt 1 (length parts)) settings.with_log is
 no_size (Err bad) bytes is = cc
 
@@ -128,7 +138,6 @@ module _ {R : Type 0} (call : Call R) where
     list = λ list bytes long. inr (omega (arith, list_step list bytes));
     size = λ bytes large. inr (omega arith);
   })
-  words_refused (NotYet Generate) is = form_refused Generate is refl is
   words_refused (NotYet Parts) is = form_refused Parts is refl is
   words_refused (NotYet Log) is = form_refused Log is refl is
   words_refused (NotYet (Size bytes)) is = absurd (no_size call.command bytes is)
@@ -200,12 +209,35 @@ module _ {R : Type 0} (call : Call R) where
       build_refused before now NoMemory end rose last = memory_bears
       build_refused before now _ end rose last = absurd end
 
+      -- ---- the scan of an image that is made
+
+      module _ (made : Generate) (makes : task_in command ≡ GenerateTask made) where
+        none_scanned : scan_of call.command ≡ None
+        none_scanned = ap scan_of is ∙ ap scan_in makes
+
+        made_is : task_of call.command ≡ Some (GenerateTask made)
+        made_is = ap task_of is ∙ ap Some makes
+
+        pub made_scanned : (found : Counts) → call.image ≡ None → call.slots 0 ≡ None → AreRead call.reads made.search.plan.patterns call.readings →
+            found ≡ counts_of call.matches FEATURE_FILES (case_made call.readings made) → Scanned call (Ok found)
+        made_scanned found no_image no_slot read same = record {
+          cause = (is_built, subst (λ (scan : Option Scan). IfSome (option_and_then (case_told call) scan) (λ c. LeavesReport call.matches c call.tells call.files)) (sym none_scanned) tt);
+          exact = exact_behind Done (no_longer Done) (λ bytes large. absurd (unsized call.image (call.slots 0) bytes no_image no_slot large.measured));
+          lists = λ behind. listed;
+          readings = λ behind. subst (λ (task : Option Task). AreRead call.reads (patterns_in task) call.readings) (sym made_is) read;
+          parts = λ behind. subst (λ (scan : Option Scan). IfSome scan (λ scan. AreAttached call.slots 0 scan.parts)) (sym none_scanned) tt;
+          found = subst (λ (task : Option Task). IfSome (option_and_then (case_in call) task) (λ c. found ≡ counts_of call.matches FEATURE_FILES c)) (sym made_is) same;
+        }
+
       -- ---- the scan of the part
 
-      module _ (scan : Scan) (part : List ℕ) (told : Option (List ℕ)) (scans : scan_in command ≡ Some scan) (one : scan.parts ≡ part ∷ [])
-          (same : call.image ≡ told) (read : AreRead call.reads scan.plan.patterns call.readings) where
+      module _ (scan : Scan) (part : List ℕ) (told : Option (List ℕ)) (scans : task_in command ≡ ScanTask scan) (one : scan.parts ≡ part ∷ [])
+          (same : call.image ≡ told) (read : AreRead call.reads scan.search.plan.patterns call.readings) where
         scanned_is : scan_of call.command ≡ Some scan
-        scanned_is = ap scan_of is ∙ scans
+        scanned_is = ap scan_of is ∙ ap scan_in scans
+
+        task_is : task_of call.command ≡ Some (ScanTask scan)
+        task_is = ap task_of is ∙ ap Some scans
 
         part_end : (scanned : Result Counts Status) → IsCause call (scanned_as scanned) →
             ((bytes : ℕ) → IsTooLarge call bytes → IsOrEarlier (NotYet (Size bytes)) (scanned_as scanned)) →
@@ -214,7 +246,7 @@ module _ {R : Type 0} (call : Call R) where
           cause = cause;
           exact = exact_behind (scanned_as scanned) (no_longer (scanned_as scanned)) large;
           lists = λ behind. listed;
-          readings = λ behind. subst (λ (scan : Option Scan). IfSome scan (λ scan. AreRead call.reads scan.plan.patterns call.readings)) (sym scanned_is) read;
+          readings = λ behind. subst (λ (task : Option Task). AreRead call.reads (patterns_in task) call.readings) (sym task_is) read;
           parts = λ behind. subst (λ (scan : Option Scan). IfSome scan (λ scan. AreAttached call.slots 0 scan.parts)) (sym scanned_is)
               (subst (AreAttached call.slots 0) (sym one) (attached behind, tt));
           found = found;
@@ -235,7 +267,7 @@ module _ {R : Type 0} (call : Call R) where
             (IsBehind attach (scanned_as scanned) → IsSomeAnd (call.slots 0) (λ s. s.name ≡ part)) →
             (IsBehind size (scanned_as scanned) → Fits IMAGE_MOST told (call.slots 0)) →
             OnOk scanned (HasReport call) → HasFound call scanned →
-            IfErr scanned (IsPartEnd scan.page told (call.slots 0) call.source_rose call.disk_rose) → Scanned call scanned
+            IfErr scanned (IsPartEnd scan.search.page told (call.slots 0) call.source_rose call.disk_rose) → Scanned call scanned
         part_scanned (Ok done) attached fits report found end =
             part_end (Ok done) (is_built, report) (no_larger Done (fits (omega arith))) attached found
         part_scanned (Err (ReadFault Image)) attached fits report found end =
@@ -249,8 +281,8 @@ module _ {R : Type 0} (call : Call R) where
             part_end (Err (ReadFault (Page page))) (end.0, has_page) (no_larger (ReadFault (Page page)) (fits (omega arith))) attached found
           where
             has_page : HasPage call page
-            has_page = subst (λ (scan : Option Scan). IsSomeAnd scan (λ scan. (bytes : ℕ) × IsSize call.image (call.slots 0) bytes × (page * scan.page < bytes)))
-                (sym scanned_is) (subst (λ (told : Option (List ℕ)). PartHasPage scan.page told (call.slots 0) page) (sym same) end.1)
+            has_page = subst (λ (scan : Option Scan). IsSomeAnd scan (λ scan. (bytes : ℕ) × IsSize call.image (call.slots 0) bytes × (page * scan.search.page < bytes)))
+                (sym scanned_is) (subst (λ (told : Option (List ℕ)). PartHasPage scan.search.page told (call.slots 0) page) (sym same) end.1)
         part_scanned (Err NoMemory) attached fits report found end = memory_bears
         part_scanned (Err _) attached fits report found end = absurd end
 
@@ -258,19 +290,19 @@ module _ {R : Type 0} (call : Call R) where
 
         module _ (lists : ListEntries) (entries : AreEntries call.lists lists) where
           abbrev found_in : List ℕ → List Classed
-          found_in = items_under lists (map call.matches call.readings) scan.plan
+          found_in = items_under lists (map call.matches call.readings) scan.search.plan
 
-          pub has_report : WritesPart scan.plan.scanners found_in told call.tells call.files → HasReport call
+          pub has_report : WritesPart scan.search.plan.scanners found_in told call.tells call.files → HasReport call
           has_report written = subst (λ (scan : Option Scan). IfSome (option_and_then (case_told call) scan) (λ c. LeavesReport call.matches c call.tells call.files))
               (sym scanned_is)
               (report_told call.matches scan call.readings lists (call.lists Stop) (call.lists Alert) call.image call.tells call.files entries.stop entries.alert
-              (subst (λ (told : Option (List ℕ)). WritesPart scan.plan.scanners found_in told call.tells call.files) (sym same) written))
+              (subst (λ (told : Option (List ℕ)). WritesPart scan.search.plan.scanners found_in told call.tells call.files) (sym same) written))
 
-          pub has_found : (scanned : Result Counts Status) → IfOk scanned (CountsPart scan.page found_in told) → HasFound call scanned
-          has_found (Ok found) is = subst (λ (scan : Option Scan). IfSome (option_and_then (case_told call) scan) (λ c. found ≡ counts_of call.matches FILES_BUILT c))
-              (sym scanned_is)
+          pub has_found : (scanned : Result Counts Status) → IfOk scanned (CountsPart scan.search.page found_in told) → HasFound call scanned
+          has_found (Ok found) is = subst (λ (task : Option Task). IfSome (option_and_then (case_in call) task) (λ c. found ≡ counts_of call.matches FEATURE_FILES c))
+              (sym task_is)
               (counts_told call.matches scan call.readings lists (call.lists Stop) (call.lists Alert) call.image found entries.stop entries.alert
-              (subst (λ (told : Option (List ℕ)). CountsPart scan.page found_in told found) (sym same) is))
+              (subst (λ (told : Option (List ℕ)). CountsPart scan.search.page found_in told found) (sym same) is))
           has_found (Err refusal) is = tt
 
 -- ---- one part
@@ -289,39 +321,42 @@ only_one [] d one = absurd (omega (arith, one))
 only_one (part ∷ []) d one = refl
 only_one (part ∷ other ∷ parts) d one = absurd (omega (arith, one))
 
--- ---- the command of a scan
+-- ---- the command of a task
 
--- the command that words give is the scan's, and its form is built
-pub command_is : (command : Result Command BadWord) (scan : Scan) → scan_of command ≡ Some scan → unbuilt_of command ≡ None →
-    (given : Command) × (command ≡ Ok given) × (unbuilt_in given ≡ None) × (scan_in given ≡ Some scan)
-command_is (Ok given) scan is built = (given, refl, built, is)
-command_is (Err bad) scan is built = absurd (none_is is)
+some_is : {A : Type 0} (x y : A) → Some x ≡ Some y → x ≡ y
+some_is x y is = cc
+
+-- the command that words give is the task's, and its form is built
+pub command_is : (command : Result Command BadWord) (task : Task) → task_of command ≡ Some task → unbuilt_of command ≡ None →
+    (given : Command) × (command ≡ Ok given) × (unbuilt_in given ≡ None) × (task_in given ≡ task)
+command_is (Ok given) task is built = (given, refl, built, some_is (task_in given) task is)
+command_is (Err bad) task is built = absurd (none_is is)
   where
-    none_is : None ≡ Some scan → ⊥
+    none_is : None ≡ Some task → ⊥
     none_is is = cc
 
-parts_in : Option Scan → List (List ℕ)
-parts_in (Some scan) = scan.parts
-parts_in None = []
+parts_in : Task → List (List ℕ)
+parts_in (ScanTask scan) = scan.parts
+parts_in (GenerateTask made) = []
 
 few_by : (parts : List (List ℕ)) (log test : Bool) → nat_lt 1 (length parts) ≡ test →
     (if test then Some Parts else (if log then Some Log else None)) ≡ None → length parts ≤ 1
-few_by parts log true is built = absurd (some_is built)
+few_by parts log true is built = absurd (some_parts built)
   where
-    some_is : Some Parts ≡ None → ⊥
-    some_is is = cc
+    some_parts : Some Parts ≡ None → ⊥
+    some_parts is = cc
 few_by parts log false is built = grind (arith, nat_tests)
 
 -- a form that is built has no more than one part
-pub few_parts : (given : Command) (scan : Scan) → scan_in given ≡ Some scan → unbuilt_in given ≡ None → length scan.parts ≤ 1
+pub few_parts : (given : Command) (scan : Scan) → task_in given ≡ ScanTask scan → unbuilt_in given ≡ None → length scan.parts ≤ 1
 unfolding parts_in
 few_parts (ScanCommand settings parts place) scan is built =
     let same : parts ≡ scan.parts = ap parts_in is in
     rw (← same) (few_by parts settings.with_log (nat_lt 1 (length parts)) refl built)
-few_parts (GenerateCommand settings seed size) scan is built = absurd (some_is built)
+few_parts (GenerateCommand settings seed size) scan is built = absurd (not_made is)
   where
-    some_is : Some Generate ≡ None → ⊥
-    some_is is = cc
+    not_made : task_in (GenerateCommand settings seed size) ≡ ScanTask scan → ⊥
+    not_made is = cc
 
 pub on_ok : {T E : Type 0} (result : Result T E) (P Q : Type 0) → (P → Q) → OnOk result P → OnOk result Q
 on_ok (Ok value) P Q gives p = gives p

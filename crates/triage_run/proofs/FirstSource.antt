@@ -10,7 +10,7 @@ use Rattle.triage_run.specs.declared.status.Status.{Status}
 use Rattle.triage_run.specs.declared.status.Status.TheVariants.{Done, Usage, ListTooLong, ReadFault, PatternRefused, DiskFault, OutFault, NoMemory, NotYet}
 use Rattle.triage_run.specs.declared.status.ReadPlace.TheVariants.{StopList, AlertList, Image, Page}
 use Rattle.triage_run.specs.declared.status.Unbuilt.{Unbuilt}
-use Rattle.triage_run.specs.declared.status.Unbuilt.TheVariants.{Generate, Parts, Log, Size}
+use Rattle.triage_run.specs.declared.status.Unbuilt.TheVariants.{Parts, Log, Size}
 use Rattle.scan_settings.specs.declared.fault.BadWord.{BadWord}
 use Rattle.scan_settings.specs.declared.words.Command.{Command}
 use Rattle.triage_run.specs.Call.{Call, call_of, and_lists, and_readings, and_kit, and_sink, IsBuilt, IsCause, IsExact, IsComplete, HasLists, HasReadings, HasParts, IsPrinted, Answers}
@@ -75,7 +75,6 @@ complete_of_cause call (ReadFault (Page page)) cause built within source lists d
 complete_of_cause call (PatternRefused index) cause built within source lists disk kit sink = absurd (kit cause.0)
 complete_of_cause call DiskFault cause built within source lists disk kit sink = absurd (disk cause)
 complete_of_cause call OutFault cause built within source lists disk kit sink = absurd (sink cause.0)
-complete_of_cause call (NotYet Generate) cause built within source lists disk kit sink = absurd (not_both call.command Generate built cause)
 complete_of_cause call (NotYet Parts) cause built within source lists disk kit sink = absurd (not_both call.command Parts built cause)
 complete_of_cause call (NotYet Log) cause built within source lists disk kit sink = absurd (not_both call.command Log built cause)
 complete_of_cause call (NotYet (Size bytes)) cause built within source lists disk kit sink =

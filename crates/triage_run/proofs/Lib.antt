@@ -2,6 +2,7 @@ pub mod AfterText
 pub mod Ends
 pub mod FirstSource
 pub mod Grown
+pub mod MadeEnds
 pub mod Readings
 mod ReportRows
 mod TextRows

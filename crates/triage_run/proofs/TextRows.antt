@@ -10,7 +10,7 @@ use Rattle.scan_settings.specs.declared.fault.Why.TheVariants.{TooMany, ValueMis
 use Rattle.triage_run.specs.declared.status.List.TheVariants.{Alert}
 use Rattle.triage_run.specs.declared.status.ReadPlace.TheVariants.{StopList, Page}
 use Rattle.triage_run.specs.declared.status.Unbuilt.TheVariants.{Log, Size}
-use Rattle.report_publish.specs.declared.publish.TheConstants.{FILES_BUILT}
+use Rattle.report_publish.specs.declared.publish.TheConstants.{FEATURE_FILES}
 use Rattle.triage_run.specs.Case.{classed_of}
 use Rattle.triage_run.specs.Text.{counts_of, counts_text, line_of}
 
@@ -74,7 +74,7 @@ is_match pattern = pattern
 -- what is found in an image by URLs and domains under a stop list and an alert list, in pages of 8 bytes
 unfoldable text_under : List ℕ → List ℕ → List ℕ → List ℕ
 unfolding shown unescape_lenient_of entries_of class_under report_files classed_of counts_text
-text_under stop alert image = counts_text (counts_of is_match FILES_BUILT (record {
+text_under stop alert image = counts_text (counts_of is_match FEATURE_FILES (record {
   image = image;
   stop = stop;
   alert = alert;

@@ -1,21 +1,24 @@
 -- What a scan finds and writes is the report of its image under its lists.
-use Rattle.std.proofs.Common.{◌≡◌, ◌∙◌, ℕ, Option, ◌-◌, ◌≤◌, ◌++◌, arith, ◌==◌, ◌&&◌, not, Bool, false, List, [], ◌∷◌, filter, length, map, true, IsTrue, Some, None, ap, sym, subst, refl}
+use Rattle.std.proofs.Common.{◌≢◌, nat_eq, eqb-true, ◌||◌, ◌≡◌, ◌∙◌, ℕ, Option, ◌-◌, ◌≤◌, ◌++◌, arith, ◌==◌, Bool, false, List, [], ◌∷◌, length, map, true, IsTrue, Some, None, ap, sym, subst, refl}
 use Rattle.std.specs.Prelude.{IfSome, option_and_then, option_map}
-use Rattle.std.specs.List.{list_all, AllByRecursion}
-use Rattle.std.proofs.lemmas.Bool.{and_parts}
+use Rattle.std.specs.List.{AllByRecursion}
 use Rattle.std.proofs.lemmas.List.{map-append}
 use Rattle.forensic_path.specs.declared.feature.Classed.{Classed}
 use Rattle.host_disk.specs.Files.{Files}
 use Rattle.scan_set.specs.Here.{owned}
 use Rattle.scan_set.proofs.Images.{owned-none, owned-join, features_owned}
 use Rattle.stop_lists.specs.Lists.{ListEntries, entries_of}
-use Rattle.feature_file.specs.Files.{report_files, is_written, is_histogram}
-use Rattle.feature_file.specs.FeatureFile.{file_text}
-use Rattle.report_publish.specs.Publish.{AreWritten}
-use Rattle.report_publish.specs.declared.publish.TheConstants.{FILES_BUILT}
+use Rattle.byte_kit.specs.Classes.{is_one_of}
+use Rattle.feature_file.specs.Files.{is_written}
+use Rattle.report_publish.specs.Publish.{files_for, report_text, AreWritten}
+use Rattle.report_publish.proofs.ForCallers.{written_is_for}
+use Rattle.std.proofs.lemmas.Bool.Decides.{nat_tests}
+use Rattle.report_publish.specs.declared.publish.TheConstants.{FEATURE_FILES}
 use Rattle.scan_set.specs.declared.plan.ScanPlan.{ScanPlan}
 use Rattle.triage_run.specs.declared.words.Scan.{Scan}
-use Rattle.triage_run.specs.Case.{Case, classed_of, report, case_by, AreReport, LeavesReport}
+use Rattle.image_gen.specs.Image.{image_of}
+use Rattle.triage_run.specs.declared.words.Generate.{Generate}
+use Rattle.triage_run.specs.Case.{Case, classed_of, report, case_by, case_made, LeavesReport}
 use Rattle.triage_run.specs.Lists.{classed_under}
 use Rattle.triage_run.specs.Part.{items_under, counts_in, WritesPart, CountsPart}
 use Rattle.triage_run.specs.Text.{Counts, counts_of}
@@ -43,72 +46,59 @@ module _ (lists : ListEntries) (patterns : List (List ℕ → Option ℕ)) (plan
   pub items_of-all : (next : ℕ) → next ≡ length image → items_of lists patterns plan image 0 next ≡ items_under lists patterns plan image
   items_of-all next end = rw end (ap (map (classed_under lists)) (sym (features_owned patterns plan image)))
 
--- a number of a feature file
-abbrev pub is_features : ℕ → Bool
-is_features number = not (number == 0) && not (is_histogram number)
+-- a text that holds for each number of a list holds for one of them
+at_one : (P : ℕ → Type 0) (numbers : List ℕ) (number : ℕ) → AllByRecursion P numbers → is_one_of numbers number ≡ true → P number
+at_one P [] number all is = absurd (none_is is)
+  where
+    none_is : false ≡ true → ⊥
+    none_is is = cc
+at_one P (other ∷ numbers) number all is = by_test (nat_eq number other) refl (at_one P numbers number all.1) is
+  where
+    by_test : (test : Bool) → nat_eq number other ≡ test → (is_one_of numbers number ≡ true → P number) → (test || is_one_of numbers number) ≡ true → P number
+    by_test true same rest is = subst P (sym (eqb-true number other same)) all.0
+    by_test false apart rest is = rest is
 
-is_false : (b : Bool) → not b ≡ true → b ≡ false
-is_false true h = cc
-is_false false h = refl
+not_zero : (number : ℕ) → (number == 0) ≡ false → number ≢ 0
+not_zero number zero = grind (arith, nat_tests)
 
 module _ {R : Type 0} (matches : R → List ℕ → Option ℕ) (c : Case R) where
-  -- the text of a feature file that is written
-  text_of : (number : ℕ) → is_features number ≡ true → is_written number c.plan.scanners ≡ true → report matches c number ≡ Some (file_text number (classed_of matches c))
+  -- a file with the text of the features has that of the report, if the report has it
+  has_text : (files : Files) (number : ℕ) (zeroth on : Bool) → (number == 0) ≡ zeroth → is_written number c.plan.scanners ≡ on →
+      AreWritten c.plan.scanners (classed_of matches c) files → IfSome (report matches c number) (λ text. files number ≡ text)
   unfolding report
-  text_of number features written =
-      let parts = and_parts _ _ features in
-      let zeroth : (number == 0) ≡ false = is_false _ parts.0 in
-      let histogram : is_histogram number ≡ false = is_false _ parts.1 in
-      rw (zeroth, written, histogram) refl
-
-  abbrev written_of : List ℕ → List ℕ
-  written_of numbers = filter (λ number. is_written number c.plan.scanners) numbers
-
-  abbrev Texts : Files → List ℕ → Type 0
-  Texts files numbers = AllByRecursion (λ number. files number ≡ file_text number (classed_of matches c)) numbers
-
-  -- files with the texts of the features are the report, whatever the list of such files
-  are_report : (files : Files) (numbers : List ℕ) → list_all is_features numbers ≡ true →
-      Texts files (written_of numbers) → AreReport matches (written_of numbers) c files
-  are_report files [] features written = tt
-  are_report files (number ∷ numbers) features written =
-      let parts = and_parts (is_features number) (list_all is_features numbers) features in
-      by_test (is_written number c.plan.scanners) refl parts.0 (are_report files numbers parts.1) written
-    where
-      by_test : (test : Bool) → is_written number c.plan.scanners ≡ test → is_features number ≡ true → (Texts files (written_of numbers) → AreReport matches (written_of numbers) c files) →
-          Texts files (written_of (number ∷ numbers)) →
-          AreReport matches (written_of (number ∷ numbers)) c files
-      by_test true on features rest written =
-          let here = rw on at written in
-          rw on (rw (text_of number features on) (here.0, rest here.1))
-      by_test false off features rest written =
-          let here = rw off at written in
-          rw off (rest here)
+  has_text files number true on zero is written = rw zero tt
+  has_text files number false false zero is written = rw (zero, is) tt
+  has_text files number false true zero is written =
+      rw (zero, is) (at_one (λ file. files file ≡ report_text file (classed_of matches c)) (files_for c.plan.scanners) number written
+      (written_is_for c.plan.scanners number is (not_zero number zero)))
 
   leaves_report : (tells : Bool) (files : Files) → (IsTrue tells → AreWritten c.plan.scanners (classed_of matches c) files) → LeavesReport matches c tells files
-  unfolding report_files
-  leaves_report tells files written = λ told. are_report files FILES_BUILT refl (written told)
+  leaves_report tells files written = λ told number. has_text files number (number == 0) (is_written number c.plan.scanners) refl refl (written told)
 
-module _ {R : Type 0} (matches : R → List ℕ → Option ℕ) (scan : Scan) (readings : List R) (lists : ListEntries) (stop alert image : List ℕ)
-    (stopped : lists.stop ≡ entries_of stop) (alerted : lists.alert ≡ entries_of alert) where
-  abbrev told : Case R
-  told = case_by scan readings stop alert image
+  module _ (lists : ListEntries) (stopped : lists.stop ≡ entries_of c.stop) (alerted : lists.alert ≡ entries_of c.alert) where
+    -- features under the entries of the case's lists are its own
+    items_are : items_under lists (map matches c.readings) c.plan c.image ≡ classed_of matches c
+    unfolding classed_of
+    items_are = rw (stopped, alerted) refl
 
-  abbrev items : List Classed
-  items = items_under lists (map matches readings) scan.plan image
+    -- files with their texts are the report ..
+    report_of_items : (tells : Bool) (files : Files) →
+        (IsTrue tells → AreWritten c.plan.scanners (items_under lists (map matches c.readings) c.plan c.image) files) → LeavesReport matches c tells files
+    report_of_items tells files written = leaves_report tells files (rw items_are at written)
 
-  -- features under the entries of lists are those of the case
-  items_are : items ≡ classed_of matches told
-  unfolding classed_of
-  items_are = rw (stopped, alerted) refl
+    -- .. and their counts are the case's
+    pub counts_of_items : (found : Counts) → found ≡ counts_in c.page (length c.image) (items_under lists (map matches c.readings) c.plan c.image) →
+        found ≡ counts_of matches FEATURE_FILES c
+    counts_of_items found is = is ∙ ap (counts_in c.page (length c.image)) items_are
 
-  -- files with their texts are the report ..
-  pub report_of_items : (tells : Bool) (files : Files) → (IsTrue tells → AreWritten scan.plan.scanners items files) → LeavesReport matches told tells files
-  report_of_items tells files written = leaves_report matches told tells files (rw items_are at written)
-
-  -- .. and their counts are the case's
-  pub counts_of_items : (found : Counts) → found ≡ counts_in scan.page (length image) items → found ≡ counts_of matches FILES_BUILT told
-  counts_of_items found is = is ∙ ap (counts_in scan.page (length image)) items_are
+-- what was found in an image that was made is what its case has
+pub counts_made : {R : Type 0} (matches : R → List ℕ → Option ℕ) (readings : List R) (made : Generate) (lists : ListEntries) (image : List ℕ) (found : Counts) →
+    lists.stop ≡ entries_of [] → lists.alert ≡ entries_of [] → image ≡ image_of made.seed made.size →
+    found ≡ counts_in made.search.page (length image) (items_under lists (map matches readings) made.search.plan image) →
+    found ≡ counts_of matches FEATURE_FILES (case_made readings made)
+counts_made matches readings made lists image found stopped alerted is counts =
+    counts_of_items matches (case_made readings made) lists stopped alerted found
+    (counts ∙ ap (λ (image : List ℕ). counts_in made.search.page (length image) (items_under lists (map matches readings) made.search.plan image)) is)
 
 -- files with the texts of an image are written, where that is what is told
 pub writes_part : (scanners : ℕ) (found_in : List ℕ → List Classed) (told : Option (List ℕ)) (image : List ℕ) (tells : Bool) (files : Files) →
@@ -123,22 +113,22 @@ module _ {R : Type 0} (matches : R → List ℕ → Option ℕ) (scan : Scan) (r
   case_from stop alert image = option_and_then (λ stop. option_and_then (λ alert. option_map (case_by scan readings stop alert) image) alert) stop
 
   abbrev found_in : List ℕ → List Classed
-  found_in = items_under lists (map matches readings) scan.plan
+  found_in = items_under lists (map matches readings) scan.search.plan
 
   pub report_told : (stop alert image : Option (List ℕ)) (tells : Bool) (files : Files) →
       IfSome stop (λ bytes. lists.stop ≡ entries_of bytes) → IfSome alert (λ bytes. lists.alert ≡ entries_of bytes) →
-      WritesPart scan.plan.scanners found_in image tells files → IfSome (case_from stop alert image) (λ c. LeavesReport matches c tells files)
+      WritesPart scan.search.plan.scanners found_in image tells files → IfSome (case_from stop alert image) (λ c. LeavesReport matches c tells files)
   report_told None alert image tells files stopped alerted written = tt
   report_told (Some stop) None image tells files stopped alerted written = tt
   report_told (Some stop) (Some alert) None tells files stopped alerted written = tt
   report_told (Some stop) (Some alert) (Some image) tells files stopped alerted written =
-      report_of_items matches scan readings lists stop alert image stopped alerted tells files written
+      report_of_items matches (case_by scan readings stop alert image) lists stopped alerted tells files written
 
   pub counts_told : (stop alert image : Option (List ℕ)) (found : Counts) →
       IfSome stop (λ bytes. lists.stop ≡ entries_of bytes) → IfSome alert (λ bytes. lists.alert ≡ entries_of bytes) →
-      CountsPart scan.page found_in image found → IfSome (case_from stop alert image) (λ c. found ≡ counts_of matches FILES_BUILT c)
+      CountsPart scan.search.page found_in image found → IfSome (case_from stop alert image) (λ c. found ≡ counts_of matches FEATURE_FILES c)
   counts_told None alert image found stopped alerted is = tt
   counts_told (Some stop) None image found stopped alerted is = tt
   counts_told (Some stop) (Some alert) None found stopped alerted is = tt
   counts_told (Some stop) (Some alert) (Some image) found stopped alerted is =
-      counts_of_items matches scan readings lists stop alert image stopped alerted found is
+      counts_of_items matches (case_by scan readings stop alert image) lists stopped alerted found is

@@ -17,9 +17,9 @@ use Rattle.triage_run.specs.declared.status.List.TheVariants.{Stop, Alert}
 use Rattle.triage_run.specs.declared.status.ReadPlace.TheVariants.{StopList, AlertList, Image, Page}
 use Rattle.triage_run.specs.declared.status.Unbuilt.TheVariants.{Size}
 use Rattle.triage_run.specs.declared.words.Scan.{Scan}
-use Rattle.report_publish.specs.declared.publish.TheConstants.{FILES_BUILT}
+use Rattle.report_publish.specs.declared.publish.TheConstants.{FEATURE_FILES}
 use Rattle.pattern_kit.specs.Building.{Refusals}
-use Rattle.triage_run.specs.Case.{Case, case_by, LeavesReport}
+use Rattle.triage_run.specs.Case.{Case, case_by, case_made, LeavesReport}
 use Rattle.triage_run.specs.Lists.{slot_of, lists_of, list_told, AreListed}
 use Rattle.triage_run.specs.Patterns.{AreRead}
 use Rattle.triage_run.specs.Sizes.{IsSize, Fits, IsSizeAbove}
@@ -27,7 +27,9 @@ use Rattle.triage_run.specs.Sources.{SourceRose, image_told, first_slots, AreAtt
 use Rattle.triage_run.specs.Steps.{alert_size, build, attach}
 use Rattle.triage_run.specs.Status.{IsOrEarlier, IsBehind, IsDoneOrNoMemory, scanned_as}
 use Rattle.triage_run.specs.Text.{Counts, counts_of, counts_text, text_of, IsPut}
-use Rattle.triage_run.specs.Words.{scan_of, unbuilt_in, unbuilt_of}
+use Rattle.triage_run.specs.declared.words.Task.{Task}
+use Rattle.triage_run.specs.declared.words.Task.TheVariants.{Scan as ScanTask, Generate as GenerateTask}
+use Rattle.triage_run.specs.Words.{task_of, scan_of, patterns_in, unbuilt_in, unbuilt_of}
 
 -- What a call saw: the command or the first bad word, the bytes of the image and of each list where they are
 -- told, what the first source and that of the lists have attached at the end, whether a count of faults or of
@@ -125,7 +127,7 @@ pub record IsWithin {R : Type 0} (call : Call R) : Type 0 where
 
 -- the image of a scan has a page of this number
 abbrev pub HasPage : {R : Type 0} → Call R → ℕ → Type 0
-HasPage call page = IsSomeAnd (scan_of call.command) (λ scan. (bytes : ℕ) × IsSize call.image (call.slots 0) bytes × (page * scan.page < bytes))
+HasPage call page = IsSomeAnd (scan_of call.command) (λ scan. (bytes : ℕ) × IsSize call.image (call.slots 0) bytes × (page * scan.search.page < bytes))
 
 -- ---- the report of a call
 
@@ -134,17 +136,22 @@ abbrev pub case_told : {R : Type 0} → Call R → Scan → Option (Case R)
 case_told call scan =
     option_and_then (λ stop. option_and_then (λ alert. option_map (case_by scan call.readings stop alert) call.image) (call.lists Alert)) (call.lists Stop)
 
--- the case of the scan that the words ask for
-abbrev pub case_of : {R : Type 0} → Call R → Option (Case R)
-case_of call = option_and_then (case_told call) (scan_of call.command)
+-- the case of a task: an image that is made is always told
+abbrev pub case_in : {R : Type 0} → Call R → Task → Option (Case R)
+case_in call (ScanTask scan) = case_told call scan
+case_in call (GenerateTask made) = Some (case_made call.readings made)
 
--- the report of the case stands
+-- the case of what the words ask for
+abbrev pub case_of : {R : Type 0} → Call R → Option (Case R)
+case_of call = option_and_then (case_in call) (task_of call.command)
+
+-- the report of the image that is scanned stands; one that is made leaves no files
 abbrev pub HasReport : {R : Type 0} → Call R → Type 0
-HasReport call = IfSome (case_of call) (λ c. LeavesReport call.matches c call.tells call.files)
+HasReport call = IfSome (option_and_then (case_told call) (scan_of call.command)) (λ c. LeavesReport call.matches c call.tells call.files)
 
 -- the text of what is found
 abbrev pub found_text : {R : Type 0} → Call R → Case R → List ℕ
-found_text call c = counts_text (counts_of call.matches FILES_BUILT c)
+found_text call c = counts_text (counts_of call.matches FEATURE_FILES c)
 
 -- ---- the answers
 
@@ -184,7 +191,7 @@ HasLists call status = IsBehind alert_size status → AreListed (lists_of (scan_
 
 -- behind the build each pattern has its reading, in order
 abbrev pub HasReadings : {R : Type 0} → Call R → Status → Type 0
-HasReadings call status = IsBehind build status → IfSome (scan_of call.command) (λ scan. AreRead call.reads scan.plan.patterns call.readings)
+HasReadings call status = IsBehind build status → AreRead call.reads (patterns_in (task_of call.command)) call.readings
 
 -- behind the attach each part has its slot, in order
 abbrev pub HasParts : {R : Type 0} → Call R → Status → Type 0
@@ -208,7 +215,7 @@ pub record Answers {R : Type 0} (call : Call R) (status : Status) : Type 0 where
 
 -- what was found is what the case has, where this is told
 abbrev pub HasFound : {R T : Type 0} → Call R → Result Counts T → Type 0
-HasFound call scanned = IfOk scanned (λ found. IfSome (case_of call) (λ c. found ≡ counts_of call.matches FILES_BUILT c))
+HasFound call scanned = IfOk scanned (λ found. IfSome (case_of call) (λ c. found ≡ counts_of call.matches FEATURE_FILES c))
 
 -- what a scan answers, ahead of its text, is borne by what it saw and left
 pub record Scanned {R : Type 0} (call : Call R) (scanned : Result Counts Status) : Type 0 where

@@ -31,7 +31,7 @@ pub record KeepsSink {O : Type 0} (taken : O → Option (List ℕ)) (faults : O 
 
 -- the files that a scan writes
 abbrev pub files_of : Option Scan → List ℕ
-files_of (Some scan) = files_for scan.plan.scanners
+files_of (Some scan) = files_for scan.search.plan.scanners
 files_of None = []
 
 -- no file differs but these, as far as the disk tells its files

@@ -1,6 +1,7 @@
 pub mod Words
 pub mod Sizes
 pub mod Lists
+pub mod Made
 pub mod Sources
 pub mod Case
 pub mod Steps

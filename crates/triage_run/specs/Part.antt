@@ -4,7 +4,7 @@ use Rattle.std.specs.Int.{div_ceil}
 use Rattle.forensic_path.specs.declared.feature.Classed.{Classed}
 use Rattle.host_disk.specs.Files.{Files}
 use Rattle.host_source.specs.Source.{Slot}
-use Rattle.report_publish.specs.declared.publish.TheConstants.{FILES_BUILT}
+use Rattle.report_publish.specs.declared.publish.TheConstants.{FEATURE_FILES}
 use Rattle.report_publish.specs.Publish.{AreWritten}
 use Rattle.scan_set.specs.declared.plan.ScanPlan.{ScanPlan}
 use Rattle.scan_set.specs.Here.{features_of}
@@ -24,7 +24,7 @@ items_under lists patterns plan image = map (classed_under lists) (features_of p
 
 -- what is found in so many bytes with these features
 abbrev pub counts_in : ℕ → ℕ → List Classed → Counts
-counts_in page bytes items = record { pages = div_ceil bytes page; features = length items; files = map (file_lines items) FILES_BUILT }
+counts_in page bytes items = record { pages = div_ceil bytes page; features = length items; files = map (file_lines items) FEATURE_FILES }
 
 -- the files of the scanners have their texts for the features of the part, as far as the part and the disk are told
 abbrev pub WritesPart : ℕ → (List ℕ → List Classed) → Option (List ℕ) → Bool → Files → Type 0

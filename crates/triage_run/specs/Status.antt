@@ -4,7 +4,7 @@ use Rattle.triage_run.specs.declared.status.Status.{Status}
 use Rattle.triage_run.specs.declared.status.Status.TheVariants.{Done, Usage, ListTooLong, ReadFault, PatternRefused, DiskFault, OutFault, NoMemory, NotYet}
 use Rattle.triage_run.specs.declared.status.List.TheVariants.{Stop, Alert}
 use Rattle.triage_run.specs.declared.status.ReadPlace.TheVariants.{StopList, AlertList, Image, Page}
-use Rattle.triage_run.specs.declared.status.Unbuilt.TheVariants.{Generate, Parts, Log, Size}
+use Rattle.triage_run.specs.declared.status.Unbuilt.TheVariants.{Parts, Log, Size}
 use Rattle.triage_run.specs.Steps.{any, words, form, stop_list, stop_size, alert_list, alert_size, build, attach, size, mount, read, print, end}
 
 -- the exit status
@@ -23,7 +23,6 @@ number_of (NotYet what) = 15
 abbrev pub step_of : Status → ℕ
 step_of NoMemory = any
 step_of (Usage word why) = words
-step_of (NotYet Generate) = form
 step_of (NotYet Parts) = form
 step_of (NotYet Log) = form
 step_of (ReadFault StopList) = stop_list

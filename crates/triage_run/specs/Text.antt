@@ -12,7 +12,7 @@ use Rattle.triage_run.specs.declared.status.List.TheVariants.{Stop, Alert}
 use Rattle.triage_run.specs.declared.status.ReadPlace.{ReadPlace}
 use Rattle.triage_run.specs.declared.status.ReadPlace.TheVariants.{StopList, AlertList, Image, Page}
 use Rattle.triage_run.specs.declared.status.Unbuilt.{Unbuilt}
-use Rattle.triage_run.specs.declared.status.Unbuilt.TheVariants.{Generate, Parts, Log, Size}
+use Rattle.triage_run.specs.declared.status.Unbuilt.TheVariants.{Parts, Log, Size}
 use Rattle.triage_run.specs.declared.summary.FileLines.{FileLines}
 use Rattle.scan_settings.specs.declared.fault.Why.{Why}
 use Rattle.scan_settings.specs.Faults.{why_text}
@@ -38,7 +38,6 @@ place_text (Page page) = codes "page " ++ decimal page
 
 -- which form of input isn't built
 abbrev pub unbuilt_text : Unbuilt → List ℕ
-unbuilt_text Generate = codes "generate"
 unbuilt_text Parts = codes "parts"
 unbuilt_text Log = codes "log"
 unbuilt_text (Size bytes) = codes "size " ++ decimal bytes

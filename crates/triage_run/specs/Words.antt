@@ -1,5 +1,6 @@
--- The scan that the words of a call ask for, and the forms of a command that aren't built.
-use Rattle.std.specs.Prelude.{◌≡◌, ◌≤◌, nat_lt, List, length, String, Option, Some, None, Result, Ok, Err, if◌then◌else◌}
+-- What the words of a call ask for, and the forms of a command that aren't built.
+use Rattle.std.specs.Prelude.{◌≡◌, ℕ, ◌≤◌, nat_lt, List, [], length, String, Option, Some, None, option_and_then, Result, Ok, Err, if◌then◌else◌}
+use Rattle.image_gen.specs.declared.image.TheConstants.{IMAGE_MOST as GENERATED_MOST}
 use Rattle.scan_find.specs.declared.TheConstants.{PATTERNS_MOST}
 use Rattle.scan_settings.specs.declared.fault.BadWord.{BadWord}
 use Rattle.scan_settings.specs.declared.settings.Plan.{Plan}
@@ -13,10 +14,13 @@ use Rattle.scan_set.specs.Lawful.{IsLawful}
 use Rattle.triage_run.specs.declared.status.Status.{Status}
 use Rattle.triage_run.specs.declared.status.Status.TheVariants.{Usage, NoMemory, NotYet}
 use Rattle.triage_run.specs.declared.status.Unbuilt.{Unbuilt}
-use Rattle.triage_run.specs.declared.status.Unbuilt.TheVariants.{Generate, Parts, Log}
-use Rattle.triage_run.specs.declared.words.Scan.{Scan}
+use Rattle.triage_run.specs.declared.status.Unbuilt.TheVariants.{Parts, Log}
+use Rattle.triage_run.specs.declared.words.Search.{Search}
+use Rattle.triage_run.specs.declared.words.Scan.{Scan as ScanTask}
+use Rattle.triage_run.specs.declared.words.Task.{Task}
+use Rattle.triage_run.specs.declared.words.Task.TheVariants.{Scan, Generate}
 
--- ---- the scan
+-- ---- what is asked for
 
 -- the plan of a scan by what options set of it
 abbrev pub plan_of : Plan → ScanPlan
@@ -31,32 +35,61 @@ plan_of plan = record {
   patterns = plan.patterns;
 }
 
--- what a command scans, if it scans an image that is there
-abbrev pub scan_in : Command → Option Scan
-scan_in (ScanCommand settings parts place) = Some (record {
-  page = settings.page;
-  plan = plan_of settings.plan;
+-- what a command asks for
+abbrev pub task_in : Command → Task
+task_in (ScanCommand settings parts place) = Scan (record {
+  search = record { page = settings.page; plan = plan_of settings.plan };
   lists = record { stop = settings.stop; alert = settings.alert };
   parts = parts;
   out = place;
 })
-scan_in (GenerateCommand settings seed size) = None
+task_in (GenerateCommand settings seed size) = Generate (record {
+  search = record { page = settings.page; plan = plan_of settings.plan };
+  seed = seed;
+  size = size;
+})
 
 -- the same of the command that words give
-abbrev pub scan_of : Result Command BadWord → Option Scan
-scan_of (Ok command) = scan_in command
-scan_of (Err bad) = None
+abbrev pub task_of : Result Command BadWord → Option Task
+task_of (Ok command) = Some (task_in command)
+task_of (Err bad) = None
+
+-- what is looked for
+abbrev pub search_in : Task → Search
+search_in (Scan scan) = scan.search
+search_in (Generate made) = made.search
+
+-- the scan of an image that is there
+abbrev pub scan_in : Task → Option ScanTask
+scan_in (Scan scan) = Some scan
+scan_in (Generate made) = None
+
+abbrev pub scan_of : Result Command BadWord → Option ScanTask
+scan_of command = option_and_then scan_in (task_of command)
 
 -- the scan that the words of a call ask for
-abbrev pub scan_asked : {A : Type 0} → List (String A) → Option Scan
+abbrev pub scan_asked : {A : Type 0} → List (String A) → Option ScanTask
 scan_asked words = scan_of (command_of (texts words))
 
--- what a scan may look for, and where: an image of at least one part, whose pages have bytes
-pub record IsScan (scan : Scan) : Type 0 where
-  pub plan : IsLawful scan.plan
-  pub few_patterns : length scan.plan.patterns ≤ PATTERNS_MOST
-  pub page : 1 ≤ scan.page
-  pub parts : 1 ≤ length scan.parts
+-- the patterns that are built for a task
+abbrev pub patterns_in : Option Task → List (List ℕ)
+patterns_in (Some task) = (search_in task).plan.patterns
+patterns_in None = []
+
+-- the patterns that the words of a call give
+abbrev pub patterns_asked : {A : Type 0} → List (String A) → List (List ℕ)
+patterns_asked words = patterns_in (task_of (command_of (texts words)))
+
+-- what may be looked for, in pages that have bytes
+pub record IsSearch (search : Search) : Type 0 where
+  pub plan : IsLawful search.plan
+  pub few_patterns : length search.plan.patterns ≤ PATTERNS_MOST
+  pub page : 1 ≤ search.page
+
+-- a scan has at least one part, and an image that is made at most 64 MiB
+abbrev pub IsTask : Task → Type 0
+IsTask (Scan scan) = IsSearch scan.search × (1 ≤ length scan.parts)
+IsTask (Generate made) = IsSearch made.search × (made.size ≤ GENERATED_MOST)
 
 -- ---- what isn't built
 
@@ -65,7 +98,7 @@ abbrev pub unbuilt_in : Command → Option Unbuilt
 unbuilt_in (ScanCommand settings parts place) =
     if nat_lt 1 (length parts) then Some Parts
     else (if settings.with_log then Some Log else None)
-unbuilt_in (GenerateCommand settings seed size) = Some Generate
+unbuilt_in (GenerateCommand settings seed size) = if settings.with_log then Some Log else None
 
 -- the same of the command that words give
 abbrev pub unbuilt_of : Result Command BadWord → Option Unbuilt

@@ -1,5 +1,5 @@
 // The call that the program makes.
-ghost use Rattle.std.specs.Prelude.{◌≡◌, [], ◌∷◌, ◌<◌, ◌≤◌, ◌^◌, true, false, List, IsTrue, length, vec_len, IfSome, OnOk, IfErr};
+ghost use Rattle.std.specs.Prelude.{◌≡◌, [], ◌∷◌, ◌<◌, ◌≤◌, ◌^◌, true, false, List, None, IsTrue, length, vec_len, IfSome, OnOk, IfErr};
 ghost use Rattle.std.specs.List.{All, AllByRecursion};
 ghost use Rattle.scan_settings.specs.Settings.{texts};
 ghost use Rattle.scan_settings.specs.Words.{command_of};
@@ -10,15 +10,16 @@ ghost use Rattle.triage_run.specs.Patterns.{MayBuild};
 ghost use Rattle.triage_run.specs.Sources.{TellAlike, IsReady, Pairwise, OnlyParts};
 ghost use Rattle.triage_run.specs.Status.{scanned_as, IfDone, IfReadFault, IsAheadOf, IsBehind, IsRefusal};
 ghost use Rattle.triage_run.specs.Steps.{stop_list, build, attach, mount};
-ghost use Rattle.triage_run.specs.Words.{scan_asked};
+ghost use Rattle.triage_run.specs.Words.{scan_asked, patterns_asked};
 
+use crate::generate::generate;
 use crate::lists::read_lists;
 use crate::patterns::build_matchers;
 use crate::scan::scan_part;
 use crate::status::Status;
 use crate::summary::Summary;
 use crate::text::print_end;
-use crate::words::scan_given;
+use crate::words::{Task, task_given};
 use host_disk::Disk;
 use host_source::{Sink, Source};
 use pattern_kit::{Kit, Matcher};
@@ -37,8 +38,8 @@ pub struct Outcome<S, L, D, K, O> {
 
 /// Does what the words say: `scan IMAGE OUT` scans the image, which the sources hold under its name, and writes the
 /// report into the place OUT of the disk. The source `lists` holds the stop list and the alert list that the words
-/// name, and the kit builds the patterns that they give. Then the text of the status is put to the sink: what was
-/// found, or the line of a refusal.
+/// name, and the kit builds the patterns that they give. `generate SEED SIZE` makes an image in memory, and scans it
+/// there. Then the text of the status is put to the sink: what was found, or the line of a refusal.
 pub fn triage<S, L, D, K, O>(
     alloc: Global,
     words: &[String],
@@ -60,7 +61,8 @@ where
     requires ready { All (IsReady S.nature S.slots (scan_asked words.now)) sources.items }
     requires lists { AreReady (L.nature lists) (L.slots lists) (lists_of (scan_asked words.now)) }
     requires unmounted { D.mounted disk ≡ false }
-    requires asked { IfSome (scan_asked words.now) (λ scan. IsTrue ((D.nature disk).may_mount scan.out) × MayBuild (K.may_build kit) scan.plan.patterns) }
+    requires out { IfSome (scan_asked words.now) (λ scan. IsTrue ((D.nature disk).may_mount scan.out)) }
+    requires patterns { MayBuild (K.may_build kit) (patterns_asked words.now) }
 
     // Every object comes back, tells what it told, and has a count of faults or refusals that is no lower.
     ensures sources { Pairwise (KeepsSource S.nature S.faults) sources.items result.sources.items }
@@ -69,8 +71,10 @@ where
     ensures kit { KeepsKit K.may_build K.refusals kit result.kit }
     ensures sink { KeepsSink O.taken O.faults out result.out }
 
-    // A refusal ahead of the stop list leaves the lists as they were, one ahead of the build the kit, one ahead of
-    // the attach the sources, and one ahead of the mount the disk.
+    // Where no image that is there is scanned, sources, lists and disk are as they were. So are the lists at a refusal
+    // ahead of the stop list, the kit at one ahead of the build, the sources at one ahead of the attach, and the disk
+    // at one ahead of the mount.
+    ensures made { scan_asked words.now ≡ None → (result.sources.items ≡ sources.items) × (result.lists ≡ lists) × (result.disk ≡ disk) }
     ensures unlisted { IsAheadOf stop_list result.status → result.lists ≡ lists }
     ensures unasked { IsAheadOf build result.status → result.kit ≡ kit }
     ensures unread { IsAheadOf attach result.status → result.sources.items ≡ sources.items }
@@ -80,7 +84,7 @@ where
     // those of the report differs, and none where the image or a list could not be read.
     ensures slots { AllByRecursion (λ s. OnlyParts (scan_asked words.now) (S.slots s)) result.sources.items }
     ensures list_slots { OnlyLists (lists_of (scan_asked words.now)) (L.slots result.lists) }
-    ensures mounted { IsBehind mount result.status → D.mounted result.disk ≡ true }
+    ensures mounted { IsBehind mount result.status → IfSome (scan_asked words.now) (λ scan. D.mounted result.disk ≡ true) }
     ensures others { KeepsOthers (files_of (scan_asked words.now)) (D.nature disk) (D.files disk) (D.files result.disk) }
     ensures unwritten { IfReadFault result.status (D.files result.disk ≡ D.files disk) }
 
@@ -128,18 +132,20 @@ fn scan_words<S: Source, L: Source, D: Disk, K: Kit>(
     requires ready { IsReady S.nature S.slots (scan_asked words.now) source.old }
     requires lists { AreReady (L.nature lists.old) (L.slots lists.old) (lists_of (scan_asked words.now)) }
     requires unmounted { D.mounted disk.old ≡ false }
-    requires asked { IfSome (scan_asked words.now) (λ scan. IsTrue ((D.nature disk.old).may_mount scan.out) × MayBuild (K.may_build kit.old) scan.plan.patterns) }
+    requires out { IfSome (scan_asked words.now) (λ scan. IsTrue ((D.nature disk.old).may_mount scan.out)) }
+    requires patterns { MayBuild (K.may_build kit.old) (patterns_asked words.now) }
     ensures source { KeepsSource S.nature S.faults source.old source.new }
     ensures lists { KeepsSource L.nature L.faults lists.old lists.new }
     ensures disk { KeepsDisk D.nature D.faults disk.old disk.new }
     ensures kit { KeepsKit K.may_build K.refusals kit.old kit.new }
+    ensures made { scan_asked words.now ≡ None → (source.new ≡ source.old) × (lists.new ≡ lists.old) × (disk.new ≡ disk.old) }
     ensures unlisted { IsAheadOf stop_list (scanned_as result) → lists.new ≡ lists.old }
     ensures unasked { IsAheadOf build (scanned_as result) → kit.new ≡ kit.old }
     ensures unread { IsAheadOf attach (scanned_as result) → source.new ≡ source.old }
     ensures untouched { IsAheadOf mount (scanned_as result) → disk.new ≡ disk.old }
     ensures slots { OnlyParts (scan_asked words.now) (S.slots source.new) }
     ensures list_slots { OnlyLists (lists_of (scan_asked words.now)) (L.slots lists.new) }
-    ensures mounted { IsBehind mount (scanned_as result) → D.mounted disk.new ≡ true }
+    ensures mounted { IsBehind mount (scanned_as result) → IfSome (scan_asked words.now) (λ scan. D.mounted disk.new ≡ true) }
     ensures others { KeepsOthers (files_of (scan_asked words.now)) (D.nature disk.old) (D.files disk.old) (D.files disk.new) }
     ensures unwritten { IfReadFault (scanned_as result) (D.files disk.new ≡ D.files disk.old) }
     ensures refused { IfErr result IsRefusal }
@@ -148,9 +154,12 @@ fn scan_words<S: Source, L: Source, D: Disk, K: Kit>(
         (and_lists L.nature L.slots L.faults lists.old lists.new
         (call_over S.nature S.slots S.faults D.nature D.files D.faults (command_of (texts words.now)) source.old source.new disk.old disk.new)))) result }
 {
-    let scan = scan_given(alloc, words)?;
+    let scan = match task_given(alloc, words)? {
+        Task::Scan(scan) => scan,
+        Task::Generate(made) => return generate(alloc, &made, kit),
+    };
     let entries = read_lists(alloc, &scan.lists, lists)?;
-    let matchers = build_matchers(alloc, kit, scan.plan.patterns.items())?;
+    let matchers = build_matchers(alloc, kit, scan.search.plan.patterns.items())?;
     let part = scan.parts.items()[0].as_str();
     scan_part(alloc, &scan, part, &entries, matchers, source, disk)
 }

@@ -7,12 +7,14 @@
 //! `specs/Text.antt`; each refusal comes only where its cause in `specs/Call.antt` is; and a lawful call
 //! over objects that don't fail is done, or wants memory.
 //!
-//! A call goes from `call` by `words` (the scan that the words ask for), `lists` (the stop list and the alert
-//! list) and `patterns` to `scan` (one part: attach, size, mount, read) and `report` (what is found, its classes,
-//! and the files) with `summary` (what was found, in numbers), and ends in `text` (the lines, and the sink).
+//! A call goes from `call` by `words` (what is asked for), `lists` (the stop list and the alert list) and `patterns`
+//! to `scan` (one part: attach, size, mount, read) and `report` (what is found, its classes, and the files) with
+//! `summary` (what was found, in numbers), and ends in `text` (the lines, and the sink). `generate` makes an image,
+//! and scans it where it stands, with a disk of its own.
 #![tactic(auto)]
 
 mod call;
+mod generate;
 mod lists;
 mod patterns;
 mod report;

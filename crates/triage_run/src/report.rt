@@ -6,11 +6,11 @@ ghost use Rattle.report_publish.specs.Publish.{files_for, AreWritten};
 ghost use Rattle.triage_run.specs.Kept.{KeepsOthers};
 ghost use Rattle.triage_run.specs.Lists.{classed_under};
 ghost use Rattle.triage_run.specs.Part.{items_under, counts_in};
-ghost use Rattle.triage_run.specs.Words.{IsScan};
+ghost use Rattle.triage_run.specs.Words.{IsSearch};
 ghost use Rattle.scan_find.specs.declared.TheConstants.{PATTERNS_MOST};
 
 use crate::summary::Summary;
-use crate::words::Scan;
+use crate::words::Search;
 use byte_kit::NoMemory;
 use forensic_path::{Classed, Feature};
 use host_disk::Disk;
@@ -24,35 +24,35 @@ use stop_lists::Lists;
 // How many bytes of the image are scanned before their features are classed.
 const PIECE_BYTES: usize = 65536;
 
-/// Writes the report of an image to a mounted disk, by the lists and the matchers of the patterns of a scan, and
-/// gives what was found.
+/// Writes the report of an image to a mounted disk, by the lists and the matchers of the patterns, and gives
+/// what was found.
 pub fn write_report<D: Disk, M: Matcher>(
     alloc: Global,
-    scan: &Scan,
+    search: &Search,
     lists: &Lists,
     matchers: Vec<M>,
     image: &[u8],
     disk: &mut D,
 ) -> Result<Summary, PublishFault>
-    requires scan { IsScan scan.now }
+    requires search { IsSearch search.now }
     requires few { length matchers.items ≤ PATTERNS_MOST }
     requires open { D.mounted disk.old ≡ true }
     requires small { length image.now < 2 ^ 63 }
     ensures same { D.nature disk.new ≡ D.nature disk.old }
     ensures stays { D.mounted disk.new ≡ true }
-    ensures written { OnOk result (IsTrue (D.nature disk.old).tells → AreWritten scan.now.plan.scanners
-        (items_under lists.now (map M.matches (map M.reading matchers.items)) scan.now.plan image.now) (D.files disk.new)) }
-    ensures found { IfOk result (λ found. found ≡ counts_in scan.now.page (length image.now)
-        (items_under lists.now (map M.matches (map M.reading matchers.items)) scan.now.plan image.now)) }
-    ensures others { KeepsOthers (files_for scan.now.plan.scanners) (D.nature disk.old) (D.files disk.old) (D.files disk.new) }
+    ensures written { OnOk result (IsTrue (D.nature disk.old).tells → AreWritten search.now.plan.scanners
+        (items_under lists.now (map M.matches (map M.reading matchers.items)) search.now.plan image.now) (D.files disk.new)) }
+    ensures found { IfOk result (λ found. found ≡ counts_in search.now.page (length image.now)
+        (items_under lists.now (map M.matches (map M.reading matchers.items)) search.now.plan image.now)) }
+    ensures others { KeepsOthers (files_for search.now.plan.scanners) (D.nature disk.old) (D.files disk.old) (D.files disk.new) }
     ensures cause { HasPublishCause (D.faults disk.old) (D.faults disk.new) result }
 {
-    let Ok(items) = items_in(alloc, image, &scan.plan, lists, matchers) else {
+    let Ok(items) = items_in(alloc, image, &search.plan, lists, matchers) else {
         return Err(PublishFault::NoMemory);
     };
     let items = items.as_slice();
-    publish_items(alloc, disk, items, scan.plan.scanners)?;
-    let found = Summary::count(alloc, scan.page, image.len() as u64, items)?;
+    publish_items(alloc, disk, items, search.plan.scanners)?;
+    let found = Summary::count(alloc, search.page, image.len() as u64, items)?;
     Ok(found)
 }
 

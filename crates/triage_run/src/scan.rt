@@ -10,7 +10,7 @@ ghost use Rattle.triage_run.specs.Sizes.{Fits};
 ghost use Rattle.triage_run.specs.Sources.{OnlyBelow};
 ghost use Rattle.triage_run.specs.Status.{scanned_as, IfReadFault, IsAheadOf, IsBehind, IsRefusal};
 ghost use Rattle.triage_run.specs.Steps.{attach, size, mount};
-ghost use Rattle.triage_run.specs.Words.{IsScan};
+ghost use Rattle.triage_run.specs.Words.{IsSearch};
 
 use crate::report::write_report;
 use crate::status::{ReadPlace, Status, Unbuilt};
@@ -24,7 +24,7 @@ use report_publish::PublishFault;
 use std::alloc::Global;
 use stop_lists::Lists;
 
-/// The most bytes of an image that is read whole.
+/// The most bytes of an image that a scan reads.
 pub const IMAGE_MOST: u64 = 1_048_576;
 
 /// Scans one part into the folder of a scan, by its lists and the matchers of its patterns: attaches the part,
@@ -38,7 +38,7 @@ pub fn scan_part<S: Source, D: Disk, M: Matcher>(
     source: &mut S,
     disk: &mut D,
 ) -> Result<Summary, Status>
-    requires scan { IsScan scan.now }
+    requires search { IsSearch scan.now.search }
     requires few { length matchers.items ≤ PATTERNS_MOST }
     requires detached { IsDetached (S.slots source.old) }
     requires part_asked { IsTrue ((S.nature source.old).may_attach part.now) }
@@ -49,17 +49,17 @@ pub fn scan_part<S: Source, D: Disk, M: Matcher>(
     ensures untouched { IsAheadOf mount (scanned_as result) → disk.new ≡ disk.old }
     ensures slots { OnlyBelow 1 (S.slots source.new) }
     ensures mounted { IsBehind mount (scanned_as result) → D.mounted disk.new ≡ true }
-    ensures others { KeepsOthers (files_for scan.now.plan.scanners) (D.nature disk.old) (D.files disk.old) (D.files disk.new) }
+    ensures others { KeepsOthers (files_for scan.now.search.plan.scanners) (D.nature disk.old) (D.files disk.old) (D.files disk.new) }
     ensures unwritten { IfReadFault (scanned_as result) (D.files disk.new ≡ D.files disk.old) }
     ensures refused { IfErr result IsRefusal }
     ensures sure { OnOk result ((S.faults source.new ≡ S.faults source.old) × (D.faults disk.new ≡ D.faults disk.old)) }
     ensures attached { IsBehind attach (scanned_as result) → IsSomeAnd (S.slots source.new 0) (λ s. s.name ≡ part.now) }
     ensures fits { IsBehind size (scanned_as result) → Fits IMAGE_MOST (told (S.nature source.old) part.now) (S.slots source.new 0) }
-    ensures report { OnOk result (WritesPart scan.now.plan.scanners (items_under lists.now (map M.matches (map M.reading matchers.items)) scan.now.plan)
+    ensures report { OnOk result (WritesPart scan.now.search.plan.scanners (items_under lists.now (map M.matches (map M.reading matchers.items)) scan.now.search.plan)
         (told (S.nature source.old) part.now) (D.nature disk.old).tells (D.files disk.new)) }
-    ensures found { IfOk result (CountsPart scan.now.page (items_under lists.now (map M.matches (map M.reading matchers.items)) scan.now.plan)
+    ensures found { IfOk result (CountsPart scan.now.search.page (items_under lists.now (map M.matches (map M.reading matchers.items)) scan.now.search.plan)
         (told (S.nature source.old) part.now)) }
-    ensures cause { IfErr result (IsPartEnd scan.now.page (told (S.nature source.old) part.now) (S.slots source.new 0)
+    ensures cause { IfErr result (IsPartEnd scan.now.search.page (told (S.nature source.old) part.now) (S.slots source.new 0)
         (Rose (S.faults source.old) (S.faults source.new)) (Rose (D.faults disk.old) (D.faults disk.new))) }
 {
     let Ok(size) = source.attach(0, part) else {
@@ -83,7 +83,7 @@ pub fn scan_part<S: Source, D: Disk, M: Matcher>(
         }
         Err(ReadEnd::NoMemory) => return Err(Status::NoMemory),
     };
-    match write_report(alloc, scan, lists, matchers, image.as_slice(), disk) {
+    match write_report(alloc, &scan.search, lists, matchers, image.as_slice(), disk) {
         Ok(found) => Ok(found),
         Err(PublishFault::Disk) => Err(Status::DiskFault),
         Err(PublishFault::NoMemory) => Err(Status::NoMemory),

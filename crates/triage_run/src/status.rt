@@ -52,8 +52,6 @@ pub enum ReadPlace {
 /// A form of input that isn't built yet.
 #[derive(Clone, Copy, Debug, PartialEq, Eq)]
 pub enum Unbuilt {
-    /// The command `generate`.
-    Generate,
     /// An image in more than one part.
     Parts,
     /// The log of a scan.

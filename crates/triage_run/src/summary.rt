@@ -2,13 +2,13 @@
 ghost use Rattle.std.specs.Prelude.{◌≡◌, ◌≤◌, length, filter, map, IfOk};
 ghost use Rattle.std.specs.Int.{div_ceil};
 ghost use Rattle.feature_file.specs.FeatureFile.{stands_in};
-ghost use Rattle.report_publish.specs.declared.publish.TheConstants.{FILES_BUILT};
+ghost use Rattle.report_publish.specs.declared.publish.TheConstants.{FEATURE_FILES};
 ghost use Rattle.triage_run.specs.Text.{Counts, file_lines};
 
 use byte_kit::NoMemory;
 use feature_file::stands_in;
 use forensic_path::Classed;
-use report_publish::FILES_BUILT;
+use report_publish::FEATURE_FILES;
 use std::alloc::Global;
 use std::marker::Model;
 
@@ -19,7 +19,7 @@ pub struct FileLines {
     pub lines: u64,
 }
 
-/// The pages of an image, its features, and the lines of each feature file that is built, in order.
+/// The pages of an image, its features, and the lines of each feature file, in order.
 #[derive(Drop)]
 pub struct Summary {
     pages: u64,
@@ -47,10 +47,10 @@ impl Summary {
         requires { 1 ≤ page }
         ensures pages { IfOk result (λ found. found.pages ≡ div_ceil bytes page) }
         ensures features { IfOk result (λ found. found.features ≡ length items.now) }
-        ensures files { IfOk result (λ found. found.files ≡ map (file_lines items.now) FILES_BUILT) }
+        ensures files { IfOk result (λ found. found.files ≡ map (file_lines items.now) FEATURE_FILES) }
     {
         let mut files = Vec::new(alloc);
-        for file in FILES_BUILT {
+        for file in FEATURE_FILES {
             let lines = lines_in(file, items);
             files.push(FileLines { file, lines })?;
         }

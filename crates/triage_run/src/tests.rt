@@ -4,6 +4,7 @@ ghost use Rattle.host_source.specs.MemSource.{mem_slots};
 ghost use Rattle.host_disk.specs.MemDisk.{mem_mounted};
 
 mod calls;
+mod generate;
 mod lists;
 mod patterns;
 mod refusals;

@@ -74,7 +74,6 @@ impl fmt::Display for Unbuilt {
 
     fn fmt<W: fmt::Write>(&self, f: &mut fmt::Formatter<W>) -> fmt::Result {
         match self {
-            Unbuilt::Generate => f.write_str("generate"),
             Unbuilt::Parts => f.write_str("parts"),
             Unbuilt::Log => f.write_str("log"),
             Unbuilt::Size(bytes) => write!(f, "size {bytes}"),

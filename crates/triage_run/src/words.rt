@@ -1,9 +1,9 @@
-// The scan that the words of the command line ask for.
+// The task that the words of the command line set.
 ghost use Rattle.std.specs.Prelude.{◌≡◌, ◌<◌, ◌^◌, None, Some, length, IfOk, IfErr, OnOk};
 ghost use Rattle.scan_settings.specs.Lawful.{IsLawful as IsLawfulCommand};
 ghost use Rattle.scan_settings.specs.Settings.{texts};
 ghost use Rattle.scan_settings.specs.Words.{command_of};
-ghost use Rattle.triage_run.specs.Words.{plan_of, scan_asked, scan_in, unbuilt_in, unbuilt_of, IsScan, IsWordsEnd};
+ghost use Rattle.triage_run.specs.Words.{plan_of, task_in, task_of, unbuilt_in, unbuilt_of, IsTask, IsWordsEnd};
 
 use crate::status::{Status, Unbuilt};
 use byte_kit::{Name, Names};
@@ -18,13 +18,20 @@ pub struct ListNames {
     pub alert: Option<Name>,
 }
 
-/// What a scan reads, looks for and writes.
+/// What is looked for in an image, and in which pages.
 #[derive(Drop)]
-pub struct Scan {
+pub struct Search {
     /// How many bytes a page has.
     pub page: u64,
     /// What is looked for, and how deep.
     pub plan: ScanPlan,
+}
+
+/// An image that is scanned.
+#[derive(Drop)]
+pub struct Scan {
+    /// What is looked for.
+    pub search: Search,
     /// The lists that class what is found.
     pub lists: ListNames,
     /// The parts of the image, in order.
@@ -33,12 +40,32 @@ pub struct Scan {
     pub out: Name,
 }
 
-/// The scan that the words ask for. Refused, it names the first bad word, or the first form of the command that
-/// isn't built, or wants memory.
-pub fn scan_given(alloc: Global, words: &[String]) -> Result<Scan, Status>
+/// An image that is made and scanned.
+#[derive(Drop)]
+pub struct Generate {
+    /// What is looked for.
+    pub search: Search,
+    /// What the image is made from.
+    pub seed: u64,
+    /// How many bytes it has.
+    pub size: u64,
+}
+
+/// What the words ask for.
+#[derive(Drop)]
+pub enum Task {
+    /// To scan an image that is there.
+    Scan(Scan),
+    /// To make an image, and to scan that.
+    Generate(Generate),
+}
+
+/// The task that the words set. Refused, it names the first bad word, or the first form of the command that isn't
+/// built, or wants memory.
+pub fn task_given(alloc: Global, words: &[String]) -> Result<Task, Status>
     requires { length words.now < 2 ^ 32 }
-    ensures scan { IfOk result (λ scan. scan_asked words.now ≡ Some scan) }
-    ensures lawful { IfOk result IsScan }
+    ensures task { IfOk result (λ task. task_of (command_of (texts words.now)) ≡ Some task) }
+    ensures lawful { IfOk result IsTask }
     ensures built { OnOk result (unbuilt_of (command_of (texts words.now)) ≡ None) }
     ensures bad { IfErr result (IsWordsEnd (command_of (texts words.now))) }
 {
@@ -47,48 +74,69 @@ pub fn scan_given(alloc: Global, words: &[String]) -> Result<Scan, Status>
         Err(WordsFault::Usage { word, why }) => return Err(Status::Usage { word, why }),
         Err(WordsFault::NoMemory) => return Err(Status::NoMemory),
     };
-    match scan_in(command) {
-        Ok(scan) => Ok(scan),
-        Err(what) => Err(Status::NotYet { what }),
+    match unbuilt_in(&command) {
+        None => Ok(task_in(command)),
+        Some(what) => Err(Status::NotYet { what }),
     }
 }
 
-// What a command scans, or the first form of it that isn't built.
-fn scan_in(command: Command) -> Result<Scan, Unbuilt>
-    requires { IsLawfulCommand command }
-    ensures scan { IfOk result (λ scan. scan_in command ≡ Some scan) }
-    ensures lawful { IfOk result IsScan }
-    ensures built { OnOk result (unbuilt_in command ≡ None) }
-    ensures unbuilt { IfErr result (λ what. unbuilt_in command ≡ Some what) }
+// The first form of a command that isn't built.
+fn unbuilt_in(command: &Command) -> Option<Unbuilt>
+    ensures { result ≡ unbuilt_in command.now }
 {
-    let Command::Scan {
-        settings,
-        parts,
-        place,
-    } = command
-    else {
-        return Err(Unbuilt::Generate);
-    };
-    if parts.items().len() > 1 {
-        return Err(Unbuilt::Parts);
+    match command {
+        Command::Scan { parts, .. } if parts.items().len() > 1 => Some(Unbuilt::Parts),
+        Command::Scan { settings, .. } | Command::Generate { settings, .. } => {
+            settings.with_log.then_some(Unbuilt::Log)
+        }
     }
-    if settings.with_log {
-        return Err(Unbuilt::Log);
+}
+
+// What a command asks for.
+fn task_in(command: Command) -> Task
+    requires { IsLawfulCommand command }
+    ensures task { result ≡ task_in command }
+    ensures lawful { IsTask result }
+{
+    match command {
+        Command::Scan {
+            settings,
+            parts,
+            place,
+        } => {
+            let Settings {
+                page,
+                plan,
+                stop,
+                alert,
+                ..
+            } = settings;
+            Task::Scan(Scan {
+                search: search_of(page, plan),
+                lists: ListNames { stop, alert },
+                parts,
+                out: place,
+            })
+        }
+        Command::Generate {
+            settings,
+            seed,
+            size,
+        } => {
+            let Settings { page, plan, .. } = settings;
+            let search = search_of(page, plan);
+            Task::Generate(Generate { search, seed, size })
+        }
     }
-    let Settings {
-        page,
-        plan,
-        stop,
-        alert,
-        ..
-    } = settings;
-    Ok(Scan {
-        page,
-        plan: plan_of(plan),
-        lists: ListNames { stop, alert },
-        parts,
-        out: place,
-    })
+}
+
+// What is looked for by what options set.
+fn search_of(page: u64, plan: Plan) -> Search
+    ensures page { result.page ≡ page }
+    ensures plan { result.plan ≡ plan_of plan }
+{
+    let plan = plan_of(plan);
+    Search { page, plan }
 }
 
 // The plan of a scan by what options set of it.

@@ -6,7 +6,7 @@ use byte_kit::NoMemory;
 use feature_file::is_written;
 use host_disk::{DiskCall, MemDisk};
 use host_source::{MemSource, SourceCall};
-use report_publish::FILES_BUILT;
+use report_publish::{FEATURE_FILES, HISTOGRAMS};
 use scan_settings::SCANNERS;
 use std::alloc::Global;
 use std::test::Fail;
@@ -43,9 +43,9 @@ pub(super) const READ: SourceCall = SourceCall::Read {
     bytes: 7,
 };
 
-// Adds a cut to nothing of each file of a report.
+// Adds a cut to nothing of each feature file of a report.
 fn push_cuts(calls: &mut Vec<DiskCall>) -> Result<(), NoMemory> {
-    for file in FILES_BUILT {
+    for file in FEATURE_FILES {
         if is_written(file, SCANNERS) {
             calls.push(DiskCall::Cut { file, to: 0 })?;
         }
@@ -53,9 +53,9 @@ fn push_cuts(calls: &mut Vec<DiskCall>) -> Result<(), NoMemory> {
     Ok(())
 }
 
-// Adds a write of the whole of each file of the report that the disk holds.
+// Adds a write of the whole of each feature file that the disk holds.
 fn push_writes(disk: &MemDisk, calls: &mut Vec<DiskCall>) -> Result<(), NoMemory> {
-    for file in FILES_BUILT {
+    for file in FEATURE_FILES {
         if is_written(file, SCANNERS) && file < 64 {
             let bytes = disk.file(file).len() as u64;
             calls.push(DiskCall::Write { file, at: 0, bytes })?;
@@ -64,9 +64,9 @@ fn push_writes(disk: &MemDisk, calls: &mut Vec<DiskCall>) -> Result<(), NoMemory
     Ok(())
 }
 
-// Adds a sync of each file of a report.
+// Adds a sync of each feature file of a report.
 fn push_syncs(calls: &mut Vec<DiskCall>) -> Result<(), NoMemory> {
-    for file in FILES_BUILT {
+    for file in FEATURE_FILES {
         if is_written(file, SCANNERS) {
             calls.push(DiskCall::Sync { file })?;
         }
@@ -74,14 +74,29 @@ fn push_syncs(calls: &mut Vec<DiskCall>) -> Result<(), NoMemory> {
     Ok(())
 }
 
-// The calls of a disk to which a scan has written short files: all of the report are cut, then
-// written, then synced.
+// Adds what writes each histogram that the disk holds, one behind another.
+fn push_histograms(disk: &MemDisk, calls: &mut Vec<DiskCall>) -> Result<(), NoMemory> {
+    for rule in HISTOGRAMS {
+        let file = rule.file();
+        if is_written(file, SCANNERS) && file < 64 {
+            let bytes = disk.file(file).len() as u64;
+            calls.push(DiskCall::Cut { file, to: 0 })?;
+            calls.push(DiskCall::Write { file, at: 0, bytes })?;
+            calls.push(DiskCall::Sync { file })?;
+        }
+    }
+    Ok(())
+}
+
+// The calls of a disk to which a scan has written short files: all feature files are cut, then
+// written, then synced, and behind them each histogram by itself.
 fn calls_of_a_scan(alloc: Global, disk: &MemDisk) -> Result<Vec<DiskCall>, NoMemory> {
     let mut calls = Vec::new(alloc);
     calls.push(DiskCall::Mount)?;
     push_cuts(&mut calls)?;
     push_writes(disk, &mut calls)?;
     push_syncs(&mut calls)?;
+    push_histograms(disk, &mut calls)?;
     Ok(calls)
 }
 

@@ -105,8 +105,8 @@ fn words_are_judged_from_left_to_right(rt: HostRuntime) -> Result<(), Fail> {
 const UNBUILT: &[(&[&str], Unbuilt, &str)] = &[
     (
         &["generate", "--log", "7", "0"],
-        Unbuilt::Generate,
-        "not yet: generate\n",
+        Unbuilt::Log,
+        "not yet: log\n",
     ),
     (
         &["scan", "--log", "a", "b", "o"],

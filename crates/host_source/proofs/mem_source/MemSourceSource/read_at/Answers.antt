@@ -6,4 +6,4 @@ returns-clause-ok c =
     let attached = c.unwrap-place.ensures in
     reads _ _ c.args.slot c.unwrap-place.result _ _ c.index.result.now c.args.self.now.apart attached
     (c.args.self.now.inside c.args.slot c.unwrap-place.result attached) c.index.ensures
-    (rw c.as_slice.ensures at c.copy_from.ensures)
+    c.read_at.ensures
