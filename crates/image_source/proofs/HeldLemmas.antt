@@ -1,7 +1,7 @@
 -- Bytes that are held, when those ahead of a place are let go of, and when more are read behind them.
-use Rattle.std.proofs.Common.{◌≡◌, ◌∙◌, ℕ, ◌+◌, ◌-◌, ◌≤◌, List, [], ◌∷◌, ◌++◌, length, take, drop, min, Option, Some, None, IfSome, refl, sym, ap, arith, append_assoc}
+use Rattle.std.proofs.Common.{◌≡◌, ◌∙◌, ℕ, ◌+◌, ◌-◌, ◌≤◌, List, ◌++◌, length, take, drop, min, Option, Some, None, IfSome, sym, ap, arith}
 use Rattle.std.specs.List.{copy_within}
-use Rattle.std.proofs.lemmas.List.{take_at, take-append-le, take-take, drop-take, drop-drop, length-take-le, length-drop, length-append}
+use Rattle.std.proofs.lemmas.List.{take_at, take-take, drop-take, drop-drop, length-take-le, length-drop, length-append}
 use Rattle.image_source.proofs.Lists.{take_sum}
 
 -- a front of a front from a place on

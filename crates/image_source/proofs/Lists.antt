@@ -1,5 +1,5 @@
 -- Fronts and rests of lists, that std does not have.
-use Rattle.std.proofs.Common.{◌≡◌, ◌∙◌, ℕ, zero, suc, ◌+◌, ◌-◌, ◌≤◌, List, [], ◌∷◌, ◌++◌, length, take, drop, refl, sym, ap, arith}
+use Rattle.std.proofs.Common.{◌≡◌, ◌∙◌, ℕ, zero, suc, ◌+◌, ◌-◌, ◌≤◌, List, [], ◌∷◌, ◌++◌, take, drop, refl, ap, arith}
 use Rattle.std.proofs.lemmas.List.{drop-drop, drop-take, take-take}
 
 -- a front of a + b is a front of a, and behind it one of b

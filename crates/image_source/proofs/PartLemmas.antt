@@ -1,15 +1,15 @@
 -- Parts one behind the other: how many bytes they have, where each stands in the image, and what one more changes.
-use Rattle.std.proofs.Common.{◌≡◌, ◌∙◌, ℕ, zero, suc, ◌+◌, ◌-◌, ◌*◌, ◌^◌, ◌<◌, ◌≤◌, List, [], ◌∷◌, ◌++◌, length, map, get_or, take, drop, Option, Some, None, IfSome, sym, refl, ap, subst, arith, append_assoc}
-use Rattle.std.specs.Prelude.{option_and_then, option_map, slice_get}
-use Rattle.std.specs.List.{All, sum_by}
-use Rattle.std.proofs.lemmas.List.{take_at, drop_at, drop-drop, length-take-le, length-append, length-map, get_or-map, map-append, take_more}
+use Rattle.std.proofs.Common.{◌≡◌, ◌∙◌, ℕ, zero, suc, ◌+◌, ◌-◌, ◌*◌, ◌^◌, ◌<◌, ◌≤◌, List, [], ◌∷◌, ◌++◌, length, map, get_or, take, drop, Option, Some, None, IfSome, sym, refl, ap, arith, append_assoc}
+use Rattle.std.specs.Prelude.{option_and_then, option_map}
+use Rattle.std.specs.List.{All}
+use Rattle.std.proofs.lemmas.List.{take_at, drop_at, drop-drop, length-take, length-take-le, length-append, length-map, get_or-map, map-append, take_more}
 use Rattle.std.proofs.lemmas.List.Sums.{sum_by-cons, sum_by-le, sum_by_more, sum_by-take-le}
-use Rattle.std.proofs.lemmas.Option.{none-some, same_Some, slice_get-get_or, gets}
+use Rattle.std.proofs.lemmas.Option.{none-some, same_Some, slice_get-get_or, slice_get_past, gets}
 use Rattle.std.proofs.lemmas.Grind.{common_steps}
 use Rattle.byte_kit.specs.Places.{put}
 use Rattle.std.proofs.lemmas.List.Elements.{All-push}
-use Rattle.host_source.specs.Source.{SourceNature, Slot, told, told_at, Attaches, IsWithin, Reads}
-use Rattle.image_source.specs.Image.{joined, size_of, AreAttached, IsPart}
+use Rattle.host_source.specs.Source.{SourceNature, Slot, told, Attaches, IsWithin, Reads}
+use Rattle.image_source.specs.Image.{joined, size_of, AreAttached, IsAttachedBelow, IsPart}
 use Rattle.image_source.specs.declared.attach.Part.{Part}
 use Rattle.image_source.specs.Inside.{slot_of, slots_of}
 use Rattle.image_source.proofs.Lists.{take_sum, piece_within}
@@ -151,6 +151,20 @@ pub attached_push : (old new : ℕ → Option Slot) (parts : List Part) (part : 
 attached_push old new parts part slot name so_far at named is =
     let here : new ≡ put old (length (slots_of parts)) (Some (slot_of part)) = rw (length-map parts slot_of, ← at, named) is in
     rw (map-append slot_of parts (part ∷ [])) (attached_more old new (slots_of parts) (slot_of part) so_far here)
+
+-- no slot behind so many is attached, where the parts are no more
+pub attached_below : (slots : ℕ → Option Slot) (parts : List Part) (count : ℕ) → AreAttached slots (slots_of parts) → length parts ≤ count →
+    IsAttachedBelow count slots
+attached_below slots parts count attached few = λ slot past.
+    let long = length-map parts slot_of in
+    attached slot ∙ slice_get_past (slots_of parts) slot (omega (arith, long, few, past))
+
+-- .. and parts whose names are a front of a list are no more than that
+pub named_few : (parts : List Part) (names : List (List ℕ)) (i : ℕ) → map (λ (p : Part). p.name) parts ≡ take i names → length parts ≤ length names
+named_few parts names i named =
+    let long = length-map parts (λ (p : Part). p.name) in
+    let front = length-take i names in
+    omega (arith, long, front, ap length named)
 
 pub named_push : (parts : List Part) (part : Part) (names : List (List ℕ)) (i : ℕ) (d : List ℕ) → i < length names →
     map (λ (p : Part). p.name) parts ≡ take i names → part.name ≡ get_or names i d →

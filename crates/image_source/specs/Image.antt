@@ -1,5 +1,5 @@
 -- An image in parts: its bytes are those of the parts, one behind the other.
-use Rattle.std.specs.Prelude.{◌≡◌, ℕ, ◌^◌, ◌<◌, List, [], ◌∷◌, ◌++◌, map, length, slice_get, Option, Some, IfSome, option_map, option_and_then}
+use Rattle.std.specs.Prelude.{◌≡◌, ℕ, ◌^◌, ◌<◌, ◌≤◌, List, [], ◌∷◌, ◌++◌, length, slice_get, Option, Some, None, IfSome, option_map, option_and_then}
 use Rattle.std.specs.List.{sum_by}
 use Rattle.host_source.specs.Source.{SourceNature, Slot, told}
 
@@ -22,6 +22,10 @@ size_of parts = sum_by (λ (part : Slot). part.size) parts
 -- each part is attached to the slot of its number, and nothing to the slots behind them
 abbrev pub AreAttached : (ℕ → Option Slot) → List Slot → Type 0
 AreAttached slots parts = (slot : ℕ) → slots slot ≡ slice_get parts slot
+
+-- nothing is attached but to the first slots
+abbrev pub IsAttachedBelow : ℕ → (ℕ → Option Slot) → Type 0
+IsAttachedBelow count slots = (slot : ℕ) → count ≤ slot → slots slot ≡ None
 
 -- the size is that of what the source tells under the name
 pub record IsPart (nature : SourceNature) (part : Slot) : Type 0 where

@@ -1,10 +1,10 @@
 // Attaching the parts of an image.
-ghost use Rattle.std.specs.Prelude.{◌≡◌, ◌≤◌, ◌<◌, length, map, None, IsTrue, IfOk};
+ghost use Rattle.std.specs.Prelude.{◌≡◌, ◌≤◌, ◌<◌, length, map, None, IsTrue, IfOk, OnErr};
 ghost use Rattle.std.specs.List.{All};
 ghost use Rattle.host_source.specs.Source.{Attaches, IsDetached};
 ghost use Rattle.image_source.specs.declared.parts.TheConstants.{PARTS_MOST};
 ghost use Rattle.image_source.specs.Faults.{IsPartsCall};
-ghost use Rattle.image_source.specs.Image.{AreAttached, IsPart};
+ghost use Rattle.image_source.specs.Image.{AreAttached, IsAttachedBelow, IsPart};
 ghost use Rattle.image_source.specs.Inside.{slots_of};
 
 use crate::PartsFault;
@@ -30,6 +30,7 @@ pub(crate) fn attach_all<S: Source>(
     requires asked { All (λ name. IsTrue ((S.nature source.old).may_attach name)) names.now }
     ensures same { S.nature source.new ≡ S.nature source.old }
     ensures attached { IfOk result (λ parts. AreAttached (S.slots source.new) (slots_of parts.items)) }
+    ensures below { IsAttachedBelow (length names.now) (S.slots source.new) }
     ensures named { IfOk result (λ parts. map (λ part. part.name) parts.items ≡ names.now) }
     ensures parts { IfOk result (λ parts. All (IsPart (S.nature source.old)) (slots_of parts.items)) }
     ensures cause { IsPartsCall (S.faults source.old) (S.faults source.new) result }
@@ -55,6 +56,7 @@ fn attach_part<S: Source>(
     ensures same { S.nature source.new ≡ S.nature source.old }
     ensures named { IfOk result (λ part. part.name ≡ name.now) }
     ensures attached { IfOk result (λ part. Attaches (S.nature source.old) (S.slots source.old) (S.slots source.new) slot name.now part.size) }
+    ensures refused { OnErr result (S.slots source.new ≡ S.slots source.old) }
     ensures cause { IsPartsCall (S.faults source.old) (S.faults source.new) result }
 {
     let name = Name::copy(alloc, name.as_str())?;

@@ -5,7 +5,7 @@ ghost use Rattle.byte_kit.specs.Counts.{CountsFault};
 ghost use Rattle.host_source.specs.Source.{IsDetached};
 ghost use Rattle.image_source.specs.declared.parts.TheConstants.{PARTS_MOST};
 ghost use Rattle.image_source.specs.Faults.{IsPartsCall, IsFaultOf};
-ghost use Rattle.image_source.specs.Image.{joined, size_of};
+ghost use Rattle.image_source.specs.Image.{joined, size_of, AreAttached, IsAttachedBelow};
 ghost use Rattle.image_source.specs.Inside.{slots_of};
 
 use crate::PartsFault;
@@ -57,6 +57,8 @@ impl<S: Source> Parts<S> {
         ensures nature { IfOk result (λ image. S.nature image.source ≡ S.nature source) }
         ensures faults { IfOk result (λ image. S.faults image.source ≡ S.faults source) }
         ensures same { IfErr result (λ refused. S.nature refused.0 ≡ S.nature source) }
+        ensures later { IfErr result (λ refused. S.faults source ≤ S.faults refused.0) }
+        ensures below { IfErr result (λ refused. IsAttachedBelow (length names.now) (S.slots refused.0)) }
         ensures cause { IfErr result (λ refused. IsFaultOf (S.faults source) (S.faults refused.0) refused.1) }
     {
         match attach_all(alloc, &mut source, names) {
@@ -136,9 +138,10 @@ impl<S: Source> Parts<S> {
         held
     }
 
-    /// The source, with the parts still attached to its slots.
+    /// The source, with the parts still attached to its slots, and nothing to the slots behind them.
     pub fn into_source(self) -> S
-        ensures { result ≡ self.source }
+        ensures source { result ≡ self.source }
+        ensures attached { AreAttached (S.slots result) self.parts }
     {
         self.source
     }

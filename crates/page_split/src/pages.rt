@@ -47,6 +47,7 @@ pub struct Pages {
 }
 
 impl Pages {
+    ghost use Rattle.std.specs.Int.{div_ceil};
     ghost use Rattle.page_split.specs.Pages.{IsPage, page_end, window_of};
     ghost use Rattle.page_split.specs.declared.pages.TheConstants.{PAGE_LEAST, PAGE_MOST, MARGIN_LEAST, MARGIN_MOST};
 
@@ -68,10 +69,11 @@ impl Pages {
 
     /// How many pages there are: as many as begin within the image. An empty image has none.
     pub fn count(&self) -> u64
+        ensures count { result ≡ div_ceil self.now.size self.now.page }
         ensures below { (page : ℕ) → page < result → IsPage self.now.size self.now.page page }
         ensures all { (page : ℕ) → IsPage self.now.size self.now.page page → page < result }
     {
-        (self.size + (self.page - 1)) / self.page
+        self.size.div_ceil(self.page)
     }
 
     /// The places of a page: the first one, and the one behind the last. It asks for a page below the count.

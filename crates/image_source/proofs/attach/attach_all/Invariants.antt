@@ -1,4 +1,4 @@
-use Rattle.std.proofs.Common.{◌≡◌, map, take, ℕ}
+use Rattle.std.proofs.Common.{◌≡◌, map, take}
 use Rattle.std.specs.List.{All}
 use Rattle.image_source.specs.declared.attach.Part.{Part}
 use Rattle.image_source.specs.Image.{AreAttached, IsPart}

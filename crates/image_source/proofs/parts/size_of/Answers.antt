@@ -1,4 +1,4 @@
-use Rattle.std.proofs.Common.{◌≡◌, ◌∙◌, ◌+◌, ◌<◌, length, take, sym, ap, arith}
+use Rattle.std.proofs.Common.{◌≡◌, ◌∙◌, ◌+◌, take, sym, ap, arith}
 use Rattle.image_source.specs.declared.attach.Part.{Part}
 use Rattle.image_source.specs.Image.{size_of}
 use Rattle.image_source.specs.Inside.{slots_of}

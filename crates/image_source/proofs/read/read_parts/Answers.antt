@@ -1,8 +1,7 @@
-use Rattle.std.proofs.Common.{◌≡◌, ◌∙◌, ◌+◌, ◌-◌, ◌<◌, ◌≤◌, ◌++◌, length, take, get_or, sym, ap, arith}
+use Rattle.std.proofs.Common.{◌≡◌, ◌∙◌, ◌+◌, ◌-◌, ◌<◌, ◌≤◌, ◌++◌, length, get_or, sym, ap, arith}
 use Rattle.std.proofs.lemmas.List.{length-map}
 use Rattle.host_source.specs.Source.{Reads}
-use Rattle.image_source.specs.declared.attach.Part.{Part}
-use Rattle.image_source.specs.Image.{AreAttached, size_of}
+use Rattle.image_source.specs.Image.{AreAttached}
 use Rattle.image_source.specs.Inside.{slot_of, slots_of}
 use Rattle.image_source.proofs.PartLemmas.{inside_small, size_at, size_more, size_most, slot_told, slot_within, read_more}
 use Rattle.image_source.proofs.read.read_parts.Goals.{then-done-into+then-next-border+in_ok-read_at, else-done-into, else-done-into-via-then-done-into+else-next-border, else-done-into-via-else-done-into}

@@ -1,4 +1,4 @@
-use Rattle.std.proofs.Common.{◌≡◌, ◌+◌, ◌≤◌, length, take, drop, min, IfSome, ℕ}
+use Rattle.std.proofs.Common.{◌≡◌, ◌+◌, ◌≤◌, length, take, drop, min, IfSome}
 use Rattle.image_source.specs.Image.{joined, size_of}
 use Rattle.image_source.specs.Inside.{slots_of}
 use Rattle.image_source.proofs.read.read_parts.Given as goal

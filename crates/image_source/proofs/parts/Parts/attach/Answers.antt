@@ -1,6 +1,5 @@
-use Rattle.std.proofs.Common.{◌≡◌, ◌∙◌, ◌≤◌, length, map, sym, ap, arith}
+use Rattle.std.proofs.Common.{◌∙◌, ◌≤◌, length, sym, ap, arith}
 use Rattle.std.proofs.lemmas.List.{length-map}
-use Rattle.byte_kit.specs.declared.text.Name.{Name}
 use Rattle.image_source.specs.declared.attach.Part.{Part}
 use Rattle.image_source.specs.Inside.{slot_of}
 use Rattle.image_source.proofs.PartLemmas.{inside_small, slot_names}

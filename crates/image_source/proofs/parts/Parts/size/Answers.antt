@@ -1,4 +1,4 @@
-use Rattle.std.proofs.Common.{◌≡◌, sym, arith}
+use Rattle.std.proofs.Common.{sym}
 use Rattle.image_source.proofs.PartLemmas.{inside_small, inside_told}
 use Rattle.image_source.proofs.parts.Parts.size.Goals as goal
 
