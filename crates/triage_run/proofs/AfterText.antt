@@ -2,11 +2,10 @@
 use Rattle.std.proofs.Common.{◌≡◌, inl, inr, sym, ap, subst, arith, ℕ, ◌<◌, List, Option, Some, None, Result, Ok, Err, IfErr, IfOk}
 use Rattle.std.specs.Prelude.{IfSome, option_map}
 use Rattle.triage_run.specs.declared.status.Status.{Status}
-use Rattle.triage_run.specs.declared.status.Status.TheVariants.{Done, Usage, ListTooLong, OutFault, NoMemory, NotYet}
+use Rattle.triage_run.specs.declared.status.Status.TheVariants.{Done, Usage, ListTooLong, TooManyPages, OutFault, NoMemory, NotYet}
 use Rattle.triage_run.specs.declared.status.List.{List as ListName}
 use Rattle.triage_run.specs.declared.status.List.TheVariants.{Stop, Alert}
 use Rattle.triage_run.specs.declared.status.Unbuilt.{Unbuilt}
-use Rattle.triage_run.specs.declared.status.Unbuilt.TheVariants.{Parts, Log, Size}
 use Rattle.triage_run.specs.Case.{Case}
 use Rattle.triage_run.specs.Call.{Call, case_of, found_text, IsCause, IsExact, HasLists, HasReadings, HasParts, HasFound}
 use Rattle.triage_run.proofs.Grown.{grown, cause_grown}
@@ -58,7 +57,7 @@ module _ {R : Type 0} (call : Call R) (rose : Type 0) (takes : List ℕ → Type
     usage = usage_after call.command exact.usage;
     form = form_after (unbuilt_of call.command) exact.form;
     list = λ list bytes long. list_after list bytes (exact.list list bytes long);
-    size = λ bytes large. or_earlier_after rose (NotYet (Size bytes)) scanned status (omega arith) (omega arith) ends (exact.size bytes large);
+    pages = λ pages many. or_earlier_after rose (TooManyPages pages) scanned status (omega arith) (omega arith) ends (exact.pages pages many);
   }
     where
       usage_after : (command : Result Command BadWord) → IfErr command (λ bad. IsOrEarlier (Usage bad.word bad.why) scanned) →
@@ -68,9 +67,7 @@ module _ {R : Type 0} (call : Call R) (rose : Type 0) (takes : List ℕ → Type
 
       form_after : (form : Option Unbuilt) → IfSome form (λ what. IsOrEarlier (NotYet what) scanned) → IfSome form (λ what. IsOrEarlier (NotYet what) status)
       form_after None hidden = tt
-      form_after (Some Parts) hidden = or_earlier_after rose (NotYet Parts) scanned status (omega arith) (omega arith) ends hidden
-      form_after (Some Log) hidden = or_earlier_after rose (NotYet Log) scanned status (omega arith) (omega arith) ends hidden
-      form_after (Some (Size bytes)) hidden = or_earlier_after rose (NotYet (Size bytes)) scanned status (omega arith) (omega arith) ends hidden
+      form_after (Some what) hidden = or_earlier_after rose (NotYet what) scanned status (omega arith) (omega arith) ends hidden
 
       list_after : (list : ListName) (bytes : ℕ) → IsOrEarlier (ListTooLong list bytes) scanned → IsOrEarlier (ListTooLong list bytes) status
       list_after Stop bytes hidden = or_earlier_after rose (ListTooLong Stop bytes) scanned status (omega arith) (omega arith) ends hidden

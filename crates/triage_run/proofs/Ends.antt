@@ -1,4 +1,4 @@
--- What the ends of a scan bear, ahead of its text: each refusal, and the scan of its part.
+-- What the ends of a scan bear, ahead of its text: each refusal, and the scan of its image.
 use Rattle.std.proofs.Common.{◌≡◌, ◌∙◌, inl, inr, refl, sym, ap, subst, arith, ℕ, ◌<◌, ◌≤◌, ◌*◌, ◌++◌, map, List, [], ◌∷◌, length, Option, Some, None, Result, Ok, Err, IfOk, IfErr, OnOk, Bool}
 use Rattle.std.specs.Prelude.{IfSome, IsSomeAnd, option_and_then, option_map, nat_lt, slice_index_or, true, false, if◌then◌else◌}
 use Rattle.byte_kit.specs.Counts.{Rose}
@@ -11,47 +11,35 @@ use Rattle.scan_settings.specs.declared.fault.BadWord.{BadWord}
 use Rattle.scan_settings.specs.declared.words.Command.{Command}
 use Rattle.scan_settings.specs.declared.words.Command.TheVariants.{Scan as ScanCommand, Generate as GenerateCommand}
 use Rattle.triage_run.specs.declared.status.Status.{Status}
-use Rattle.triage_run.specs.declared.status.Status.TheVariants.{Done, Usage, ListTooLong, ReadFault, PatternRefused, DiskFault, NoMemory, NotYet}
+use Rattle.triage_run.specs.declared.status.Status.TheVariants.{Done, Usage, ListTooLong, ReadFault, PatternRefused, TooManyPages, DiskFault, NoMemory, NotYet}
 use Rattle.triage_run.specs.declared.status.List.{List as ListName}
 use Rattle.triage_run.specs.declared.status.List.TheVariants.{Stop, Alert}
 use Rattle.triage_run.specs.declared.status.ReadPlace.TheVariants.{StopList, AlertList, Image, Page}
 use Rattle.triage_run.specs.declared.status.Unbuilt.{Unbuilt}
-use Rattle.triage_run.specs.declared.status.Unbuilt.TheVariants.{Parts, Log, Size}
 use Rattle.triage_run.specs.declared.words.Scan.{Scan}
 use Rattle.triage_run.specs.declared.words.Generate.{Generate}
 use Rattle.triage_run.specs.declared.words.Task.{Task}
 use Rattle.triage_run.specs.declared.words.Task.TheVariants.{Scan as ScanTask, Generate as GenerateTask}
-use Rattle.triage_run.specs.Call.{Call, IsBuilt, IsTooLong, IsTooLarge, HasPage, case_told, case_in, HasReport, IsCause, IsExact, HasFound, Scanned}
+use Rattle.triage_run.specs.Call.{Call, IsBuilt, IsTooLong, HasTooMany, image_seen, case_told, case_in, HasReport, IsCause, IsExact, HasFound, Scanned}
 use Rattle.triage_run.specs.Case.{joined, case_made, LeavesReport}
 use Rattle.triage_run.specs.Lists.{lists_of, AreListed, AreEntries, ListFits, IsListsEnd}
-use Rattle.triage_run.specs.Part.{items_under, WritesPart, CountsPart, PartHasPage, IsPartEnd}
+use Rattle.triage_run.specs.Image.{ImageSeen, HasAttached, AreTooMany, HasFewPages, HasPageAt, items_under, WritesImage, CountsImage, IsImageEnd}
+use Rattle.triage_run.proofs.ImageSizes.{count_is_one}
 use Rattle.triage_run.proofs.WholeReport.{report_told, counts_told}
 use Rattle.stop_lists.specs.Lists.{ListEntries}
 use Rattle.report_publish.specs.declared.publish.TheConstants.{FEATURE_FILES}
-use Rattle.triage_run.specs.Sources.{AreAttached}
 use Rattle.triage_run.specs.Patterns.{AreRead, IsBuildEnd}
-use Rattle.triage_run.specs.Sizes.{IsSize, Fits, IsSizeAbove}
+use Rattle.triage_run.specs.Sizes.{IsSize}
 use Rattle.triage_run.specs.Status.{step_of, IsOrEarlier, IsBehind, scanned_as}
-use Rattle.triage_run.specs.Steps.{any, words, form, alert_size, attach, size}
+use Rattle.triage_run.specs.Steps.{form, alert_size, attach, pages}
 use Rattle.triage_run.specs.Text.{Counts, counts_of}
-use Rattle.triage_run.specs.declared.scan.TheConstants.{IMAGE_MOST}
 use Rattle.triage_run.specs.Words.{task_in, task_of, scan_in, scan_of, patterns_in, unbuilt_in, unbuilt_of, IsWordsEnd}
 
 -- ---- steps
 
-form_step : (what : Unbuilt) → any < step_of (NotYet what)
-form_step Parts = omega arith
-form_step Log = omega arith
-form_step (Size bytes) = omega arith
-
 list_step : (list : ListName) (bytes : ℕ) → form < step_of (ListTooLong list bytes)
 list_step Stop bytes = omega arith
 list_step Alert bytes = omega arith
-
-words_step : (what : Unbuilt) → words < step_of (NotYet what)
-words_step Parts = omega arith
-words_step Log = omega arith
-words_step (Size bytes) = omega arith
 
 if_err_of : {T E : Type 0} (result : Result T E) (P : E → Type 0) → ((e : E) → P e) → IfErr result P
 if_err_of (Ok value) P holds = tt
@@ -66,29 +54,6 @@ size_is_one : (told : Option (List ℕ)) (slot : Option Slot) (a b : ℕ) → Is
 size_is_one (Some bytes) slot a b is_a is_b = is_a ∙ sym is_b
 size_is_one None (Some s) a b is_a is_b = is_a ∙ sym is_b
 size_is_one None None a b is_a is_b = absurd is_a
-
--- what isn't there has no size
-unsized : (told : Option (List ℕ)) (slot : Option Slot) (size : ℕ) → told ≡ None → slot ≡ None → IsSize told slot size → ⊥
-unsized told slot size no_bytes no_slot is =
-    subst (λ (slot : Option Slot). IsSize None slot size) no_slot (subst (λ (told : Option (List ℕ)). IsSize told slot size) no_bytes is)
-
--- no command has a size
-no_size : (command : Result Command BadWord) (bytes : ℕ) → unbuilt_of command ≡ Some (Size bytes) → ⊥
-no_size (Ok command) bytes is = of_command command is
-  where
-    of_scan : (many log : Bool) → (if many then Some Parts else (if log then Some Log else None)) ≡ Some (Size bytes) → ⊥
-    of_scan true log is = cc
-    of_scan false true is = cc
-    of_scan false false is = cc
-
-    of_made : (log : Bool) → (if log then Some Log else None) ≡ Some (Size bytes) → ⊥
-    of_made true is = cc
-    of_made false is = cc
-
-    of_command : (command : Command) → unbuilt_in command ≡ Some (Size bytes) → ⊥
-    of_command (GenerateCommand settings seed size) is = of_made settings.with_log is
-    of_command (ScanCommand settings parts place) is = of_scan (nat_lt 1 (length parts)) settings.with_log is
-no_size (Err bad) bytes is = cc
 
 abbrev refused : Status → Result Counts Status
 refused refusal = Err refusal
@@ -111,9 +76,9 @@ module _ {R : Type 0} (call : Call R) where
   pub memory_bears : Scanned call (refused NoMemory)
   memory_bears = early NoMemory (omega arith) tt (record {
     usage = if_err_of call.command _ (λ bad. inr (omega arith));
-    form = if_some_of (unbuilt_of call.command) _ (λ what. inr (form_step what));
+    form = if_some_of (unbuilt_of call.command) _ (λ what. inr (omega arith));
     list = λ list bytes long. inr (omega (arith, list_step list bytes));
-    size = λ bytes large. inr (omega arith);
+    pages = λ pages many. inr (omega arith);
   })
 
   -- a form that isn't built is one of a command
@@ -121,26 +86,23 @@ module _ {R : Type 0} (call : Call R) where
   no_bad_word (Ok command) what P is = tt
   no_bad_word (Err bad) what P is = cc
 
-  form_refused : (what : Unbuilt) → unbuilt_of call.command ≡ Some what → step_of (NotYet what) ≡ form → IsCause call (NotYet what) →
-      Scanned call (refused (NotYet what))
-  form_refused what is step cause = early (NotYet what) (omega (arith, step)) cause (record {
+  form_refused : (what : Unbuilt) → unbuilt_of call.command ≡ Some what → Scanned call (refused (NotYet what))
+  form_refused what is = early (NotYet what) (omega arith) is (record {
     usage = no_bad_word call.command what _ is;
     form = subst (λ (form : Option Unbuilt). IfSome form (λ w. IsOrEarlier (NotYet w) (NotYet what))) (sym is) (inl refl);
-    list = λ list bytes long. inr (omega (arith, step, list_step list bytes));
-    size = λ bytes large. inr (omega (arith, step));
+    list = λ list bytes long. inr (omega (arith, list_step list bytes));
+    pages = λ pages many. inr (omega arith);
   })
 
   -- the first bad word was named, or the first form that isn't built
   pub words_refused : (refusal : Status) → IsWordsEnd call.command refusal → Scanned call (refused refusal)
   words_refused (Usage word why) bad = early (Usage word why) (omega arith) bad (record {
     usage = subst (λ (command : Result Command BadWord). IfErr command (λ bad. IsOrEarlier (Usage bad.word bad.why) (Usage word why))) (sym bad) (inl refl);
-    form = if_some_of (unbuilt_of call.command) _ (λ what. inr (words_step what));
+    form = if_some_of (unbuilt_of call.command) _ (λ what. inr (omega arith));
     list = λ list bytes long. inr (omega (arith, list_step list bytes));
-    size = λ bytes large. inr (omega arith);
+    pages = λ pages many. inr (omega arith);
   })
-  words_refused (NotYet Parts) is = form_refused Parts is refl is
-  words_refused (NotYet Log) is = form_refused Log is refl is
-  words_refused (NotYet (Size bytes)) is = absurd (no_size call.command bytes is)
+  words_refused (NotYet what) is = form_refused what is
   words_refused NoMemory bad = memory_bears
   words_refused _ bad = absurd bad
 
@@ -151,36 +113,36 @@ module _ {R : Type 0} (call : Call R) where
     is_built = subst (λ (command : Result Command BadWord). IsBuilt (record call { command = command })) (sym is) built
 
     exact_behind : (status : Status) → ((list : ListName) (bytes : ℕ) → IsTooLong call list bytes → IsOrEarlier (ListTooLong list bytes) status)
-        → ((bytes : ℕ) → IsTooLarge call bytes → IsOrEarlier (NotYet (Size bytes)) status) → IsExact call status
-    exact_behind status long large = record {
+        → ((pages : ℕ) → HasTooMany call pages → IsOrEarlier (TooManyPages pages) status) → IsExact call status
+    exact_behind status long many = record {
       usage = subst (λ (command : Result Command BadWord). IfErr command (λ bad. IsOrEarlier (Usage bad.word bad.why) status)) (sym is) tt;
       form = subst (λ (form : Option Unbuilt). IfSome form (λ what. IsOrEarlier (NotYet what) status)) (sym (ap unbuilt_of is ∙ built)) tt;
       list = long;
-      size = large;
+      pages = many;
     }
 
     -- a list is too long, or could not be read
     pub lists_refused : (refusal : Status) → IsListsEnd call.lists call.list_slots call.lists_rose refusal → Scanned call (refused refusal)
     lists_refused (ListTooLong Stop size) end =
-        early (ListTooLong Stop size) (omega arith) end (exact_behind (ListTooLong Stop size) longer (λ bytes large. inr (omega arith)))
+        early (ListTooLong Stop size) (omega arith) end (exact_behind (ListTooLong Stop size) longer (λ pages many. inr (omega arith)))
       where
         longer : (list : ListName) (bytes : ℕ) → IsTooLong call list bytes → IsOrEarlier (ListTooLong list bytes) (ListTooLong Stop size)
         longer Stop bytes long = inl (ap (ListTooLong Stop) (size_is_one (call.lists Stop) (call.list_slots 0) size bytes end.measured long.measured))
         longer Alert bytes long = inr (omega arith)
     lists_refused (ListTooLong Alert size) end =
-        early (ListTooLong Alert size) (omega arith) end.0 (exact_behind (ListTooLong Alert size) longer (λ bytes large. inr (omega arith)))
+        early (ListTooLong Alert size) (omega arith) end.0 (exact_behind (ListTooLong Alert size) longer (λ pages many. inr (omega arith)))
       where
         longer : (list : ListName) (bytes : ℕ) → IsTooLong call list bytes → IsOrEarlier (ListTooLong list bytes) (ListTooLong Alert size)
         longer Stop bytes long = absurd (omega (arith, end.1 bytes long.measured, long.above))
         longer Alert bytes long = inl (ap (ListTooLong Alert) (size_is_one (call.lists Alert) (call.list_slots 1) size bytes end.0.measured long.measured))
     lists_refused (ReadFault StopList) end =
-        early (ReadFault StopList) (omega arith) end (exact_behind (ReadFault StopList) longer (λ bytes large. inr (omega arith)))
+        early (ReadFault StopList) (omega arith) end (exact_behind (ReadFault StopList) longer (λ pages many. inr (omega arith)))
       where
         longer : (list : ListName) (bytes : ℕ) → IsTooLong call list bytes → IsOrEarlier (ListTooLong list bytes) (ReadFault StopList)
         longer Stop bytes long = inr (omega arith)
         longer Alert bytes long = inr (omega arith)
     lists_refused (ReadFault AlertList) end =
-        early (ReadFault AlertList) (omega arith) end.0 (exact_behind (ReadFault AlertList) longer (λ bytes large. inr (omega arith)))
+        early (ReadFault AlertList) (omega arith) end.0 (exact_behind (ReadFault AlertList) longer (λ pages many. inr (omega arith)))
       where
         longer : (list : ListName) (bytes : ℕ) → IsTooLong call list bytes → IsOrEarlier (ListTooLong list bytes) (ReadFault AlertList)
         longer Stop bytes long = absurd (omega (arith, end.1 bytes long.measured, long.above))
@@ -200,7 +162,7 @@ module _ {R : Type 0} (call : Call R) where
           call.kit_rose ≡ Rose before.count now.count → call.kit_last ≡ now.last → Scanned call (refused refusal)
       build_refused before now (PatternRefused index) end rose last = record {
         cause = (subst (λ (T : Type 0). T) (sym rose) end.0, last ∙ end.1);
-        exact = exact_behind (PatternRefused index) (no_longer (PatternRefused index)) (λ bytes large. inr (omega arith));
+        exact = exact_behind (PatternRefused index) (no_longer (PatternRefused index)) (λ pages many. inr (omega arith));
         lists = λ behind. listed;
         readings = λ behind. absurd (omega (arith, behind));
         parts = λ behind. absurd (omega (arith, behind));
@@ -218,108 +180,97 @@ module _ {R : Type 0} (call : Call R) where
         made_is : task_of call.command ≡ Some (GenerateTask made)
         made_is = ap task_of is ∙ ap Some makes
 
-        pub made_scanned : (found : Counts) → call.image ≡ None → call.slots 0 ≡ None → AreRead call.reads made.search.plan.patterns call.readings →
+        pub made_scanned : (found : Counts) → AreRead call.reads made.search.plan.patterns call.readings →
             found ≡ counts_of call.matches FEATURE_FILES (case_made call.readings made) → Scanned call (Ok found)
-        made_scanned found no_image no_slot read same = record {
+        made_scanned found read same = record {
           cause = (is_built, subst (λ (scan : Option Scan). IfSome (option_and_then (case_told call) scan) (λ c. LeavesReport call.matches c call.tells call.files)) (sym none_scanned) tt);
-          exact = exact_behind Done (no_longer Done) (λ bytes large. absurd (unsized call.image (call.slots 0) bytes no_image no_slot large.measured));
+          exact = exact_behind Done (no_longer Done) (λ pages many. absurd (subst (λ (scan : Option Scan). IsSomeAnd scan (λ scan. AreTooMany (image_seen call scan) pages)) none_scanned many));
           lists = λ behind. listed;
           readings = λ behind. subst (λ (task : Option Task). AreRead call.reads (patterns_in task) call.readings) (sym made_is) read;
-          parts = λ behind. subst (λ (scan : Option Scan). IfSome scan (λ scan. AreAttached call.slots 0 scan.parts)) (sym none_scanned) tt;
+          parts = λ behind. subst (λ (scan : Option Scan). IfSome scan (λ scan. HasAttached call.slots scan.parts)) (sym none_scanned) tt;
           found = subst (λ (task : Option Task). IfSome (option_and_then (case_in call) task) (λ c. found ≡ counts_of call.matches FEATURE_FILES c)) (sym made_is) same;
         }
 
-      -- ---- the scan of the part
+      -- ---- the scan of the image
 
-      module _ (scan : Scan) (part : List ℕ) (told : Option (List ℕ)) (scans : task_in command ≡ ScanTask scan) (one : scan.parts ≡ part ∷ [])
+      module _ (scan : Scan) (told : Option (List ℕ)) (scans : task_in command ≡ ScanTask scan)
           (same : call.image ≡ told) (read : AreRead call.reads scan.search.plan.patterns call.readings) where
+        abbrev seen : ImageSeen
+        seen = record { bytes = told; parts = scan.parts; slots = call.slots; page = scan.search.page }
+
         scanned_is : scan_of call.command ≡ Some scan
         scanned_is = ap scan_of is ∙ ap scan_in scans
 
         task_is : task_of call.command ≡ Some (ScanTask scan)
         task_is = ap task_of is ∙ ap Some scans
 
-        part_end : (scanned : Result Counts Status) → IsCause call (scanned_as scanned) →
-            ((bytes : ℕ) → IsTooLarge call bytes → IsOrEarlier (NotYet (Size bytes)) (scanned_as scanned)) →
-            (IsBehind attach (scanned_as scanned) → IsSomeAnd (call.slots 0) (λ s. s.name ≡ part)) → HasFound call scanned → Scanned call scanned
-        part_end scanned cause large attached found = record {
+        -- what holds of the image holds as the call says it, and the other way
+        as_seen : (P : ImageSeen → Type 0) → P seen → IsSomeAnd (scan_of call.command) (λ scan. P (image_seen call scan))
+        as_seen P holds = subst (λ (scan : Option Scan). IsSomeAnd scan (λ scan. P (image_seen call scan))) (sym scanned_is)
+            (subst (λ (told : Option (List ℕ)). P (record seen { bytes = told })) (sym same) holds)
+
+        of_seen : (P : ImageSeen → Type 0) → IsSomeAnd (scan_of call.command) (λ scan. P (image_seen call scan)) → P seen
+        of_seen P holds = subst (λ (told : Option (List ℕ)). P (record seen { bytes = told })) same
+            (subst (λ (scan : Option Scan). IsSomeAnd scan (λ scan. P (image_seen call scan))) scanned_is holds)
+
+        image_end : (scanned : Result Counts Status) → IsCause call (scanned_as scanned) →
+            ((pages : ℕ) → HasTooMany call pages → IsOrEarlier (TooManyPages pages) (scanned_as scanned)) →
+            (IsBehind attach (scanned_as scanned) → HasAttached call.slots scan.parts) → HasFound call scanned → Scanned call scanned
+        image_end scanned cause many attached found = record {
           cause = cause;
-          exact = exact_behind (scanned_as scanned) (no_longer (scanned_as scanned)) large;
+          exact = exact_behind (scanned_as scanned) (no_longer (scanned_as scanned)) many;
           lists = λ behind. listed;
           readings = λ behind. subst (λ (task : Option Task). AreRead call.reads (patterns_in task) call.readings) (sym task_is) read;
-          parts = λ behind. subst (λ (scan : Option Scan). IfSome scan (λ scan. AreAttached call.slots 0 scan.parts)) (sym scanned_is)
-              (subst (AreAttached call.slots 0) (sym one) (attached behind, tt));
+          parts = λ behind. subst (λ (scan : Option Scan). IfSome scan (λ scan. HasAttached call.slots scan.parts)) (sym scanned_is) (attached behind);
           found = found;
         }
 
-        -- no image that fits is too large
-        no_larger : (status : Status) → Fits IMAGE_MOST told (call.slots 0) → (bytes : ℕ) → IsTooLarge call bytes → IsOrEarlier (NotYet (Size bytes)) status
-        no_larger status fits bytes large =
-            absurd (omega (arith, fits bytes (subst (λ (told : Option (List ℕ)). IsSize told (call.slots 0) bytes) same large.measured), large.above))
+        -- no image of few pages has too many
+        no_more : (status : Status) → HasFewPages seen → (pages : ℕ) → HasTooMany call pages → IsOrEarlier (TooManyPages pages) status
+        no_more status few pages many =
+            let too_many = of_seen (λ seen. AreTooMany seen pages) many in
+            absurd (omega (arith, few pages too_many.counted, too_many.above))
 
-        same_size : (size bytes : ℕ) → IsSizeAbove IMAGE_MOST told (call.slots 0) size → IsTooLarge call bytes →
-            IsOrEarlier (NotYet (Size bytes)) (NotYet (Size size))
-        same_size size bytes above large =
-            let measured = subst (λ (told : Option (List ℕ)). IsSize told (call.slots 0) bytes) same large.measured in
-            inl (ap (λ (size : ℕ). NotYet (Size size)) (size_is_one told (call.slots 0) size bytes above.measured measured))
+        same_count : (pages others : ℕ) → AreTooMany seen pages → HasTooMany call others → IsOrEarlier (TooManyPages others) (TooManyPages pages)
+        same_count pages others these those =
+            inl (ap TooManyPages (count_is_one seen pages others these.counted (of_seen (λ seen. AreTooMany seen others) those).counted))
 
-        pub part_scanned : (scanned : Result Counts Status) →
-            (IsBehind attach (scanned_as scanned) → IsSomeAnd (call.slots 0) (λ s. s.name ≡ part)) →
-            (IsBehind size (scanned_as scanned) → Fits IMAGE_MOST told (call.slots 0)) →
+        pub image_scanned : (scanned : Result Counts Status) →
+            (IsBehind attach (scanned_as scanned) → HasAttached call.slots scan.parts) →
+            (IsBehind pages (scanned_as scanned) → HasFewPages seen) →
             OnOk scanned (HasReport call) → HasFound call scanned →
-            IfErr scanned (IsPartEnd scan.search.page told (call.slots 0) call.source_rose call.disk_rose) → Scanned call scanned
-        part_scanned (Ok done) attached fits report found end =
-            part_end (Ok done) (is_built, report) (no_larger Done (fits (omega arith))) attached found
-        part_scanned (Err (ReadFault Image)) attached fits report found end =
-            part_end (Err (ReadFault Image)) end (λ bytes large. inr (omega arith)) attached found
-        part_scanned (Err (NotYet (Size size))) attached fits report found end =
-            part_end (Err (NotYet (Size size))) (subst (λ (told : Option (List ℕ)). IsSizeAbove IMAGE_MOST told (call.slots 0) size) (sym same) end)
-            (λ bytes large. same_size size bytes end large) attached found
-        part_scanned (Err DiskFault) attached fits report found end =
-            part_end (Err DiskFault) end (no_larger DiskFault (fits (omega arith))) attached found
-        part_scanned (Err (ReadFault (Page page))) attached fits report found end =
-            part_end (Err (ReadFault (Page page))) (end.0, has_page) (no_larger (ReadFault (Page page)) (fits (omega arith))) attached found
-          where
-            has_page : HasPage call page
-            has_page = subst (λ (scan : Option Scan). IsSomeAnd scan (λ scan. (bytes : ℕ) × IsSize call.image (call.slots 0) bytes × (page * scan.search.page < bytes)))
-                (sym scanned_is) (subst (λ (told : Option (List ℕ)). PartHasPage scan.search.page told (call.slots 0) page) (sym same) end.1)
-        part_scanned (Err NoMemory) attached fits report found end = memory_bears
-        part_scanned (Err _) attached fits report found end = absurd end
+            IfErr scanned (IsImageEnd seen call.source_rose call.disk_rose) → Scanned call scanned
+        image_scanned (Ok done) attached few report found end =
+            image_end (Ok done) (is_built, report) (no_more Done (few (omega arith))) attached found
+        image_scanned (Err (ReadFault Image)) attached few report found end =
+            image_end (Err (ReadFault Image)) end (λ pages many. inr (omega arith)) attached found
+        image_scanned (Err (TooManyPages count)) attached few report found end =
+            image_end (Err (TooManyPages count)) (as_seen (λ seen. AreTooMany seen count) end) (λ pages many. same_count count pages end many) attached found
+        image_scanned (Err DiskFault) attached few report found end =
+            image_end (Err DiskFault) end (no_more DiskFault (few (omega arith))) attached found
+        image_scanned (Err (ReadFault (Page page))) attached few report found end =
+            image_end (Err (ReadFault (Page page))) (end.0, as_seen (λ seen. HasPageAt seen page) end.1) (no_more (ReadFault (Page page)) (few (omega arith))) attached found
+        image_scanned (Err NoMemory) attached few report found end = memory_bears
+        image_scanned (Err _) attached few report found end = absurd end
 
-        -- ---- what the part bears, as the call says it
+        -- ---- what the image bears, as the call says it
 
         module _ (lists : ListEntries) (entries : AreEntries call.lists lists) where
           abbrev found_in : List ℕ → List Classed
           found_in = items_under lists (map call.matches call.readings) scan.search.plan
 
-          pub has_report : WritesPart scan.search.plan.scanners found_in told call.tells call.files → HasReport call
+          pub has_report : WritesImage scan.search.plan.scanners found_in told call.tells call.files → HasReport call
           has_report written = subst (λ (scan : Option Scan). IfSome (option_and_then (case_told call) scan) (λ c. LeavesReport call.matches c call.tells call.files))
               (sym scanned_is)
               (report_told call.matches scan call.readings lists (call.lists Stop) (call.lists Alert) call.image call.tells call.files entries.stop entries.alert
-              (subst (λ (told : Option (List ℕ)). WritesPart scan.search.plan.scanners found_in told call.tells call.files) (sym same) written))
+              (subst (λ (told : Option (List ℕ)). WritesImage scan.search.plan.scanners found_in told call.tells call.files) (sym same) written))
 
-          pub has_found : (scanned : Result Counts Status) → IfOk scanned (CountsPart scan.search.page found_in told) → HasFound call scanned
+          pub has_found : (scanned : Result Counts Status) → IfOk scanned (CountsImage scan.search.page found_in told) → HasFound call scanned
           has_found (Ok found) is = subst (λ (task : Option Task). IfSome (option_and_then (case_in call) task) (λ c. found ≡ counts_of call.matches FEATURE_FILES c))
               (sym task_is)
               (counts_told call.matches scan call.readings lists (call.lists Stop) (call.lists Alert) call.image found entries.stop entries.alert
-              (subst (λ (told : Option (List ℕ)). CountsPart scan.search.page found_in told found) (sym same) is))
+              (subst (λ (told : Option (List ℕ)). CountsImage scan.search.page found_in told found) (sym same) is))
           has_found (Err refusal) is = tt
-
--- ---- one part
-
--- the bytes of an image of one part
-pub joined_one : (told : List ℕ → Option (List ℕ)) (part : List ℕ) → joined told (part ∷ []) ≡ told part
-joined_one told part = of_told (told part)
-  where
-    of_told : (bytes : Option (List ℕ)) → option_and_then (λ bytes. option_map (λ rest. bytes ++ rest) (Some [])) bytes ≡ bytes
-    of_told None = refl
-    of_told (Some bytes) = ap Some (append-nil bytes)
-
--- a list of one
-pub only_one : (parts : List (List ℕ)) (d : List ℕ) → length parts ≡ 1 → parts ≡ slice_index_or parts 0 d ∷ []
-only_one [] d one = absurd (omega (arith, one))
-only_one (part ∷ []) d one = refl
-only_one (part ∷ other ∷ parts) d one = absurd (omega (arith, one))
 
 -- ---- the command of a task
 
@@ -335,40 +286,17 @@ command_is (Err bad) task is built = absurd (none_is is)
     none_is : None ≡ Some task → ⊥
     none_is is = cc
 
-parts_in : Task → List (List ℕ)
-parts_in (ScanTask scan) = scan.parts
-parts_in (GenerateTask made) = []
-
-few_by : (parts : List (List ℕ)) (log test : Bool) → nat_lt 1 (length parts) ≡ test →
-    (if test then Some Parts else (if log then Some Log else None)) ≡ None → length parts ≤ 1
-few_by parts log true is built = absurd (some_parts built)
-  where
-    some_parts : Some Parts ≡ None → ⊥
-    some_parts is = cc
-few_by parts log false is built = grind (arith, nat_tests)
-
--- a form that is built has no more than one part
-pub few_parts : (given : Command) (scan : Scan) → task_in given ≡ ScanTask scan → unbuilt_in given ≡ None → length scan.parts ≤ 1
-unfolding parts_in
-few_parts (ScanCommand settings parts place) scan is built =
-    let same : parts ≡ scan.parts = ap parts_in is in
-    rw (← same) (few_by parts settings.with_log (nat_lt 1 (length parts)) refl built)
-few_parts (GenerateCommand settings seed size) scan is built = absurd (not_made is)
-  where
-    not_made : task_in (GenerateCommand settings seed size) ≡ ScanTask scan → ⊥
-    not_made is = cc
-
 pub on_ok : {T E : Type 0} (result : Result T E) (P Q : Type 0) → (P → Q) → OnOk result P → OnOk result Q
 on_ok (Ok value) P Q gives p = gives p
 on_ok (Err e) P Q gives p = tt
 
 -- where the count of the source rose, that of some source did
-pub part_end_among : (page : ℕ) (told : Option (List ℕ)) (slot : Option Slot) (rose among disk : Type 0) → (rose → among) → (scanned : Result Counts Status) →
-    IfErr scanned (IsPartEnd page told slot rose disk) → IfErr scanned (IsPartEnd page told slot among disk)
-part_end_among page told slot rose among disk more (Ok found) end = tt
-part_end_among page told slot rose among disk more (Err (ReadFault Image)) end = more end
-part_end_among page told slot rose among disk more (Err (ReadFault (Page number))) end = (more end.0, end.1)
-part_end_among page told slot rose among disk more (Err (NotYet (Size bytes))) end = end
-part_end_among page told slot rose among disk more (Err DiskFault) end = end
-part_end_among page told slot rose among disk more (Err NoMemory) end = tt
-part_end_among page told slot rose among disk more (Err _) end = absurd end
+pub image_end_among : (image : ImageSeen) (rose among disk : Type 0) → (rose → among) → (scanned : Result Counts Status) →
+    IfErr scanned (IsImageEnd image rose disk) → IfErr scanned (IsImageEnd image among disk)
+image_end_among image rose among disk more (Ok found) end = tt
+image_end_among image rose among disk more (Err (ReadFault Image)) end = more end
+image_end_among image rose among disk more (Err (ReadFault (Page number))) end = (more end.0, end.1)
+image_end_among image rose among disk more (Err (TooManyPages count)) end = end
+image_end_among image rose among disk more (Err DiskFault) end = end
+image_end_among image rose among disk more (Err NoMemory) end = tt
+image_end_among image rose among disk more (Err _) end = absurd end

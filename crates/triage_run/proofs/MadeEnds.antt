@@ -35,11 +35,10 @@ none_due slots names none Alert = subst (λ (names : ListNames). IfSome names.al
 pub made_end : {R : Type 0} (call : Call R) (command : Command) (is : call.command ≡ Ok command) (built : unbuilt_in command ≡ None)
     (made : Generate) (makes : task_in command ≡ GenerateTask made)
     (fits : (list : ListName) → ListFits call.lists call.list_slots list) (listed : AreListed (lists_of (scan_of call.command)) call.list_slots) →
-    call.image ≡ None → call.slots 0 ≡ None →
     (before now : Refusals) → call.kit_rose ≡ Rose before.count now.count → call.kit_last ≡ now.last →
     (scanned : Result Counts Status) → IfOk scanned (FindsMade call.reads call.matches made) → IfErr scanned (IsBuildEnd before now) →
     (readings : List R) × Scanned (record call { readings = readings }) scanned
-made_end call command is built made makes fits listed no_image no_slot before now rose last (Ok found) finds end =
-    (finds.0, made_scanned (record call { readings = finds.0 }) command is built fits listed made makes found no_image no_slot finds.1 finds.2)
-made_end call command is built made makes fits listed no_image no_slot before now rose last (Err refusal) finds end =
+made_end call command is built made makes fits listed before now rose last (Ok found) finds end =
+    (finds.0, made_scanned (record call { readings = finds.0 }) command is built fits listed made makes found finds.1 finds.2)
+made_end call command is built made makes fits listed before now rose last (Err refusal) finds end =
     ([], build_refused (record call { readings = [] }) command is built fits listed before now refusal end rose last)

@@ -5,11 +5,11 @@ use Rattle.feature_escape.specs.Escape.{unescape_lenient_of}
 use Rattle.stop_lists.specs.Lists.{entries_of, class_under}
 use Rattle.feature_file.specs.Files.{report_files}
 use Rattle.triage_run.specs.declared.status.Status.{Status}
-use Rattle.triage_run.specs.declared.status.Status.TheVariants.{Usage, ListTooLong, ReadFault, PatternRefused, NotYet}
+use Rattle.triage_run.specs.declared.status.Status.TheVariants.{Usage, ListTooLong, ReadFault, PatternRefused, TooManyPages, NotYet}
 use Rattle.scan_settings.specs.declared.fault.Why.TheVariants.{TooMany, ValueMissing, BadText, PlaceMissing, WordBounds}
 use Rattle.triage_run.specs.declared.status.List.TheVariants.{Alert}
 use Rattle.triage_run.specs.declared.status.ReadPlace.TheVariants.{StopList, Page}
-use Rattle.triage_run.specs.declared.status.Unbuilt.TheVariants.{Log, Size}
+use Rattle.triage_run.specs.declared.status.Unbuilt.TheVariants.{Log}
 use Rattle.report_publish.specs.declared.publish.TheConstants.{FEATURE_FILES}
 use Rattle.triage_run.specs.Case.{classed_of}
 use Rattle.triage_run.specs.Text.{counts_of, counts_text, line_of}
@@ -61,9 +61,9 @@ a_page_was_not_read : refusal_text (ReadFault (Page 17)) ≡ codes "read fault: 
 unfolding refusal_text
 a_page_was_not_read = refl
 
-a_size_is_not_built : refusal_text (NotYet (Size 1048577)) ≡ codes "not yet: size 1048577\n"
+pages_are_too_many : refusal_text (TooManyPages 1048577) ≡ codes "too many pages: 1048577\n"
 unfolding refusal_text
-a_size_is_not_built = refl
+pages_are_too_many = refl
 
 -- ---- what is found
 

@@ -20,31 +20,8 @@ use Rattle.image_gen.specs.Image.{image_of}
 use Rattle.triage_run.specs.declared.words.Generate.{Generate}
 use Rattle.triage_run.specs.Case.{Case, classed_of, report, case_by, case_made, LeavesReport}
 use Rattle.triage_run.specs.Lists.{classed_under}
-use Rattle.triage_run.specs.Part.{items_under, counts_in, WritesPart, CountsPart}
+use Rattle.triage_run.specs.Image.{items_under, counts_in, WritesImage, CountsImage}
 use Rattle.triage_run.specs.Text.{Counts, counts_of}
-
--- the features of so many places of an image from the first on, each with its class
-abbrev pub items_of : ListEntries → List (List ℕ → Option ℕ) → ScanPlan → List ℕ → ℕ → ℕ → List Classed
-items_of lists patterns plan image first count = map (classed_under lists) (owned patterns plan plan.depth [] image 0 first count)
-
-module _ (lists : ListEntries) (patterns : List (List ℕ → Option ℕ)) (plan : ScanPlan) (image : List ℕ) where
-  -- those of no place
-  pub items_of-none : items_of lists patterns plan image 0 0 ≡ []
-  items_of-none = ap (map (classed_under lists)) (owned-none patterns plan plan.depth [] image 0 0)
-
-  -- those of the places up to one, and behind them those up to another
-  pub items_of-join : (next to : ℕ) → next ≤ to →
-      items_of lists patterns plan image 0 next ++ items_of lists patterns plan image next (to - next) ≡ items_of lists patterns plan image 0 to
-  items_of-join next to ordered =
-      let low : next - 0 ≡ next = omega arith in
-      let high : to - 0 ≡ to = omega arith in
-      let joined = rw (low, high) at (owned-join patterns plan plan.depth [] image 0 0 next to (omega arith) ordered) in
-      sym (map-append (classed_under lists) (owned patterns plan plan.depth [] image 0 0 next) (owned patterns plan plan.depth [] image 0 next (to - next)))
-      ∙ ap (map (classed_under lists)) joined
-
-  -- and those of all places are those of the image
-  pub items_of-all : (next : ℕ) → next ≡ length image → items_of lists patterns plan image 0 next ≡ items_under lists patterns plan image
-  items_of-all next end = rw end (ap (map (classed_under lists)) (sym (features_owned patterns plan image)))
 
 -- a text that holds for each number of a list holds for one of them
 at_one : (P : ℕ → Type 0) (numbers : List ℕ) (number : ℕ) → AllByRecursion P numbers → is_one_of numbers number ≡ true → P number
@@ -92,19 +69,24 @@ module _ {R : Type 0} (matches : R → List ℕ → Option ℕ) (c : Case R) whe
     counts_of_items found is = is ∙ ap (counts_in c.page (length c.image)) items_are
 
 -- what was found in an image that was made is what its case has
-pub counts_made : {R : Type 0} (matches : R → List ℕ → Option ℕ) (readings : List R) (made : Generate) (lists : ListEntries) (image : List ℕ) (found : Counts) →
-    lists.stop ≡ entries_of [] → lists.alert ≡ entries_of [] → image ≡ image_of made.seed made.size →
-    found ≡ counts_in made.search.page (length image) (items_under lists (map matches readings) made.search.plan image) →
+pub counts_made : {R : Type 0} (matches : R → List ℕ → Option ℕ) (readings : List R) (made : Generate) (lists : ListEntries) (told : Option (List ℕ)) (found : Counts) →
+    lists.stop ≡ entries_of [] → lists.alert ≡ entries_of [] → told ≡ Some (image_of made.seed made.size) →
+    CountsImage made.search.page (items_under lists (map matches readings) made.search.plan) told found →
     found ≡ counts_of matches FEATURE_FILES (case_made readings made)
-counts_made matches readings made lists image found stopped alerted is counts =
-    counts_of_items matches (case_made readings made) lists stopped alerted found
-    (counts ∙ ap (λ (image : List ℕ). counts_in made.search.page (length image) (items_under lists (map matches readings) made.search.plan image)) is)
+counts_made matches readings made lists told found stopped alerted is counts =
+    counts_of_items matches (case_made readings made) lists stopped alerted found (rw is at counts)
 
--- files with the texts of an image are written, where that is what is told
-pub writes_part : (scanners : ℕ) (found_in : List ℕ → List Classed) (told : Option (List ℕ)) (image : List ℕ) (tells : Bool) (files : Files) →
-    IfSome told (λ bytes. image ≡ bytes) → (IsTrue tells → AreWritten scanners (found_in image) files) → WritesPart scanners found_in told tells files
-writes_part scanners found_in None image tells files is written = tt
-writes_part scanners found_in (Some bytes) image tells files is written = subst (λ (bytes : List ℕ). IsTrue tells → AreWritten scanners (found_in bytes) files) is written
+-- items that are those of the image, where this is told, have its texts and its counts
+pub writes_image : (scanners : ℕ) (found_in : List ℕ → List Classed) (told : Option (List ℕ)) (items : List Classed) (tells : Bool) (files : Files) →
+    IfSome told (λ image. items ≡ found_in image) → (IsTrue tells → AreWritten scanners items files) → WritesImage scanners found_in told tells files
+writes_image scanners found_in None items tells files are written = tt
+writes_image scanners found_in (Some image) items tells files are written = subst (λ (items : List Classed). IsTrue tells → AreWritten scanners items files) are written
+
+pub counts_image : (page bytes : ℕ) (found_in : List ℕ → List Classed) (told : Option (List ℕ)) (items : List Classed) (found : Counts) →
+    IfSome told (λ image. bytes ≡ length image) → IfSome told (λ image. items ≡ found_in image) → found ≡ counts_in page bytes items →
+    CountsImage page found_in told found
+counts_image page bytes found_in None items found long are is = tt
+counts_image page bytes found_in (Some image) items found long are is = rw (long, are) at is
 
 -- ---- as far as the lists and the image are told
 
@@ -117,7 +99,7 @@ module _ {R : Type 0} (matches : R → List ℕ → Option ℕ) (scan : Scan) (r
 
   pub report_told : (stop alert image : Option (List ℕ)) (tells : Bool) (files : Files) →
       IfSome stop (λ bytes. lists.stop ≡ entries_of bytes) → IfSome alert (λ bytes. lists.alert ≡ entries_of bytes) →
-      WritesPart scan.search.plan.scanners found_in image tells files → IfSome (case_from stop alert image) (λ c. LeavesReport matches c tells files)
+      WritesImage scan.search.plan.scanners found_in image tells files → IfSome (case_from stop alert image) (λ c. LeavesReport matches c tells files)
   report_told None alert image tells files stopped alerted written = tt
   report_told (Some stop) None image tells files stopped alerted written = tt
   report_told (Some stop) (Some alert) None tells files stopped alerted written = tt
@@ -126,7 +108,7 @@ module _ {R : Type 0} (matches : R → List ℕ → Option ℕ) (scan : Scan) (r
 
   pub counts_told : (stop alert image : Option (List ℕ)) (found : Counts) →
       IfSome stop (λ bytes. lists.stop ≡ entries_of bytes) → IfSome alert (λ bytes. lists.alert ≡ entries_of bytes) →
-      CountsPart scan.search.page found_in image found → IfSome (case_from stop alert image) (λ c. found ≡ counts_of matches FEATURE_FILES c)
+      CountsImage scan.search.page found_in image found → IfSome (case_from stop alert image) (λ c. found ≡ counts_of matches FEATURE_FILES c)
   counts_told None alert image found stopped alerted is = tt
   counts_told (Some stop) None image found stopped alerted is = tt
   counts_told (Some stop) (Some alert) None found stopped alerted is = tt

@@ -1,5 +1,5 @@
 -- What a call saw and left, and which answers this bears.
-use Rattle.std.specs.Prelude.{◌≡◌, ℕ, ◌*◌, ◌<◌, Bool, List, [], ◌∷◌, Option, Some, None, option_map, option_and_then, IfSome, IsSomeAnd, Result, Err, IsOkAnd, IfOk, IfErr}
+use Rattle.std.specs.Prelude.{◌≡◌, ℕ, Bool, List, [], ◌∷◌, Option, Some, None, option_map, option_and_then, IfSome, IsSomeAnd, Result, Err, IsOkAnd, IfOk, IfErr}
 use Rattle.byte_kit.specs.Counts.{Rose}
 use Rattle.host_source.specs.Source.{SourceNature, Slot}
 use Rattle.host_source.specs.Sink.{Takes}
@@ -9,21 +9,20 @@ use Rattle.scan_settings.specs.declared.fault.BadWord.{BadWord}
 use Rattle.scan_settings.specs.declared.words.Command.{Command}
 use Rattle.scan_settings.specs.Faults.{bad}
 use Rattle.triage_run.specs.declared.lists.TheConstants.{LIST_MOST}
-use Rattle.triage_run.specs.declared.scan.TheConstants.{IMAGE_MOST}
 use Rattle.triage_run.specs.declared.status.Status.{Status}
-use Rattle.triage_run.specs.declared.status.Status.TheVariants.{Done, Usage, ListTooLong, ReadFault, PatternRefused, DiskFault, OutFault, NoMemory, NotYet}
+use Rattle.triage_run.specs.declared.status.Status.TheVariants.{Done, Usage, ListTooLong, ReadFault, PatternRefused, TooManyPages, DiskFault, OutFault, NoMemory, NotYet}
 use Rattle.triage_run.specs.declared.status.List.{List as ListName}
 use Rattle.triage_run.specs.declared.status.List.TheVariants.{Stop, Alert}
 use Rattle.triage_run.specs.declared.status.ReadPlace.TheVariants.{StopList, AlertList, Image, Page}
-use Rattle.triage_run.specs.declared.status.Unbuilt.TheVariants.{Size}
 use Rattle.triage_run.specs.declared.words.Scan.{Scan}
 use Rattle.report_publish.specs.declared.publish.TheConstants.{FEATURE_FILES}
 use Rattle.pattern_kit.specs.Building.{Refusals}
 use Rattle.triage_run.specs.Case.{Case, case_by, case_made, LeavesReport}
 use Rattle.triage_run.specs.Lists.{slot_of, lists_of, list_told, AreListed}
 use Rattle.triage_run.specs.Patterns.{AreRead}
-use Rattle.triage_run.specs.Sizes.{IsSize, Fits, IsSizeAbove}
-use Rattle.triage_run.specs.Sources.{SourceRose, image_told, first_slots, AreAttached}
+use Rattle.triage_run.specs.Image.{ImageSeen, HasAttached, AreTooMany, HasFewPages, HasPageAt}
+use Rattle.triage_run.specs.Sizes.{Fits, IsSizeAbove}
+use Rattle.triage_run.specs.Sources.{SourceRose, image_told, first_slots}
 use Rattle.triage_run.specs.Steps.{alert_size, build, attach}
 use Rattle.triage_run.specs.Status.{IsOrEarlier, IsBehind, IsDoneOrNoMemory, scanned_as}
 use Rattle.triage_run.specs.Text.{Counts, counts_of, counts_text, text_of, IsPut}
@@ -116,18 +115,22 @@ IsBuilt call = IsOkAnd call.command (λ command. unbuilt_in command ≡ None)
 abbrev pub IsTooLong : {R : Type 0} → Call R → ListName → ℕ → Type 0
 IsTooLong call list bytes = IsSizeAbove LIST_MOST (call.lists list) (call.list_slots (slot_of list)) bytes
 
--- the image has so many, which are more than are read
-abbrev pub IsTooLarge : {R : Type 0} → Call R → ℕ → Type 0
-IsTooLarge call bytes = IsSizeAbove IMAGE_MOST call.image (call.slots 0) bytes
+-- the image of a scan, as the call saw it
+abbrev pub image_seen : {R : Type 0} → Call R → Scan → ImageSeen
+image_seen call scan = record { bytes = call.image; parts = scan.parts; slots = call.slots; page = scan.search.page }
 
--- neither a list nor the image is longer than is read
+-- it has so many pages, which are more than are scanned
+abbrev pub HasTooMany : {R : Type 0} → Call R → ℕ → Type 0
+HasTooMany call pages = IsSomeAnd (scan_of call.command) (λ scan. AreTooMany (image_seen call scan) pages)
+
+-- it has a page of this number
+abbrev pub HasPage : {R : Type 0} → Call R → ℕ → Type 0
+HasPage call page = IsSomeAnd (scan_of call.command) (λ scan. HasPageAt (image_seen call scan) page)
+
+-- no list is longer than is read, and the image has no more pages than are scanned
 pub record IsWithin {R : Type 0} (call : Call R) : Type 0 where
   pub lists : (list : ListName) → Fits LIST_MOST (call.lists list) (call.list_slots (slot_of list))
-  pub image : Fits IMAGE_MOST call.image (call.slots 0)
-
--- the image of a scan has a page of this number
-abbrev pub HasPage : {R : Type 0} → Call R → ℕ → Type 0
-HasPage call page = IsSomeAnd (scan_of call.command) (λ scan. (bytes : ℕ) × IsSize call.image (call.slots 0) bytes × (page * scan.search.page < bytes))
+  pub pages : IfSome (scan_of call.command) (λ scan. HasFewPages (image_seen call scan))
 
 -- ---- the report of a call
 
@@ -164,22 +167,22 @@ IsCause call (ReadFault AlertList) = call.lists_rose
 IsCause call (ListTooLong list size) = IsTooLong call list size
 IsCause call (PatternRefused index) = call.kit_rose × (call.kit_last ≡ Some index)
 IsCause call (ReadFault Image) = call.source_rose
-IsCause call (NotYet (Size bytes)) = IsTooLarge call bytes
+IsCause call (TooManyPages pages) = HasTooMany call pages
 IsCause call (NotYet what) = unbuilt_of call.command ≡ Some what
 IsCause call DiskFault = call.disk_rose
 IsCause call (ReadFault (Page page)) = call.source_rose × HasPage call page
 IsCause call OutFault = call.sink_rose × IsBuilt call × HasReport call
 IsCause call NoMemory = Unit {0}
 
--- a bad word, a form that isn't built, and a list or an image that is too long are refused, unless an earlier
+-- a bad word, a form that isn't built, a list that is too long, and too many pages are refused, unless an earlier
 -- refusal hides that
 pub record IsExact {R : Type 0} (call : Call R) (status : Status) : Type 0 where
   pub usage : IfErr call.command (λ bad. IsOrEarlier (Usage bad.word bad.why) status)
   pub form : IfSome (unbuilt_of call.command) (λ what. IsOrEarlier (NotYet what) status)
   pub list : (list : ListName) (bytes : ℕ) → IsTooLong call list bytes → IsOrEarlier (ListTooLong list bytes) status
-  pub size : (bytes : ℕ) → IsTooLarge call bytes → IsOrEarlier (NotYet (Size bytes)) status
+  pub pages : (pages : ℕ) → HasTooMany call pages → IsOrEarlier (TooManyPages pages) status
 
--- a form that is built, nothing too long, and no count that rose: the call is done, or wants memory
+-- a form that is built, nothing too long, not too many pages, and no count that rose: the call is done, or wants memory
 abbrev pub IsComplete : {R : Type 0} → Call R → Status → Type 0
 IsComplete call status =
     IsBuilt call → IsWithin call
@@ -195,7 +198,7 @@ HasReadings call status = IsBehind build status → AreRead call.reads (patterns
 
 -- behind the attach each part has its slot, in order
 abbrev pub HasParts : {R : Type 0} → Call R → Status → Type 0
-HasParts call status = IsBehind attach status → IfSome (scan_of call.command) (λ scan. AreAttached call.slots 0 scan.parts)
+HasParts call status = IsBehind attach status → IfSome (scan_of call.command) (λ scan. HasAttached call.slots scan.parts)
 
 -- the text of the status was put, as far as the case and the bytes put are told
 abbrev pub IsPrinted : {R : Type 0} → Call R → Status → Type 0

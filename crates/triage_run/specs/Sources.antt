@@ -1,8 +1,9 @@
 -- Lists of sources before a call and after it, and the image that they hold.
-use Rattle.std.specs.Prelude.{◌≡◌, ◌⊎◌, ℕ, suc, ◌≤◌, List, [], ◌∷◌, length, Option, Some, None, IsSomeAnd, IfSome}
+use Rattle.std.specs.Prelude.{◌≡◌, ◌⊎◌, ℕ, List, [], ◌∷◌, length, Option, Some, None, IfSome}
 use Rattle.std.specs.List.{All, AllPass}
 use Rattle.byte_kit.specs.Counts.{Rose}
 use Rattle.host_source.specs.Source.{SourceNature, Slot, IsDetached, told}
+use Rattle.image_source.specs.Image.{IsAttachedBelow}
 use Rattle.triage_run.specs.declared.words.Scan.{Scan}
 use Rattle.triage_run.specs.Case.{joined}
 
@@ -54,10 +55,6 @@ abbrev pub first_slots : {S : Type 0} → (S → ℕ → Option Slot) → List S
 first_slots slots [] slot = None
 first_slots slots (s ∷ sources) slot = slots s slot
 
--- nothing is attached from this slot on
-abbrev pub OnlyBelow : ℕ → (ℕ → Option Slot) → Type 0
-OnlyBelow count slots = (slot : ℕ) → count ≤ slot → slots slot ≡ None
-
 -- how many parts a scan names
 abbrev pub part_count : Option Scan → ℕ
 part_count (Some scan) = length scan.parts
@@ -65,9 +62,4 @@ part_count None = 0
 
 -- nothing is attached but to the slots of the parts
 abbrev pub OnlyParts : Option Scan → (ℕ → Option Slot) → Type 0
-OnlyParts scan slots = OnlyBelow (part_count scan) slots
-
--- each part is attached, from this slot on, in order
-abbrev pub AreAttached : (ℕ → Option Slot) → ℕ → List (List ℕ) → Type 0
-AreAttached slots first [] = Unit {0}
-AreAttached slots first (part ∷ parts) = IsSomeAnd (slots first) (λ s. s.name ≡ part) × AreAttached slots (suc first) parts
+OnlyParts scan slots = IsAttachedBelow (part_count scan) slots

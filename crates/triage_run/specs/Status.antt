@@ -1,11 +1,10 @@
 -- A status by its number and by the step of a scan at which it comes, and facts by its case.
 use Rattle.std.specs.Prelude.{◌≡◌, ◌⊎◌, ℕ, ◌<◌, Result, Ok, Err}
 use Rattle.triage_run.specs.declared.status.Status.{Status}
-use Rattle.triage_run.specs.declared.status.Status.TheVariants.{Done, Usage, ListTooLong, ReadFault, PatternRefused, DiskFault, OutFault, NoMemory, NotYet}
+use Rattle.triage_run.specs.declared.status.Status.TheVariants.{Done, Usage, ListTooLong, ReadFault, PatternRefused, TooManyPages, DiskFault, OutFault, NoMemory, NotYet}
 use Rattle.triage_run.specs.declared.status.List.TheVariants.{Stop, Alert}
 use Rattle.triage_run.specs.declared.status.ReadPlace.TheVariants.{StopList, AlertList, Image, Page}
-use Rattle.triage_run.specs.declared.status.Unbuilt.TheVariants.{Parts, Log, Size}
-use Rattle.triage_run.specs.Steps.{any, words, form, stop_list, stop_size, alert_list, alert_size, build, attach, size, mount, read, print, end}
+use Rattle.triage_run.specs.Steps.{any, words, form, stop_list, stop_size, alert_list, alert_size, build, attach, pages, mount, read, print, end}
 
 -- the exit status
 abbrev pub number_of : Status → ℕ
@@ -14,6 +13,7 @@ number_of (Usage word why) = 2
 number_of (ListTooLong list bytes) = 3
 number_of (ReadFault place) = 4
 number_of (PatternRefused index) = 5
+number_of (TooManyPages count) = 7
 number_of DiskFault = 8
 number_of OutFault = 13
 number_of NoMemory = 14
@@ -23,15 +23,14 @@ number_of (NotYet what) = 15
 abbrev pub step_of : Status → ℕ
 step_of NoMemory = any
 step_of (Usage word why) = words
-step_of (NotYet Parts) = form
-step_of (NotYet Log) = form
+step_of (NotYet what) = form
 step_of (ReadFault StopList) = stop_list
 step_of (ListTooLong Stop bytes) = stop_size
 step_of (ReadFault AlertList) = alert_list
 step_of (ListTooLong Alert bytes) = alert_size
 step_of (PatternRefused index) = build
 step_of (ReadFault Image) = attach
-step_of (NotYet (Size bytes)) = size
+step_of (TooManyPages count) = pages
 step_of DiskFault = mount
 step_of (ReadFault (Page page)) = read
 step_of OutFault = print

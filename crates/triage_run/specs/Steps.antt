@@ -37,15 +37,15 @@ build = 7
 abbrev pub attach : ℕ
 attach = 8
 
--- the size of the image is tested
-abbrev pub size : ℕ
-size = 9
+-- the pages of the image are counted
+abbrev pub pages : ℕ
+pages = 9
 
 -- the folder is mounted
 abbrev pub mount : ℕ
 mount = 10
 
--- the image is read
+-- the pages are read
 abbrev pub read : ℕ
 read = 11
 

@@ -6,13 +6,13 @@ use Rattle.forensic_path.specs.declared.feature.Classed.{Classed}
 use Rattle.feature_file.specs.Files.{name_of}
 use Rattle.feature_file.specs.FeatureFile.{stands_in}
 use Rattle.triage_run.specs.declared.status.Status.{Status}
-use Rattle.triage_run.specs.declared.status.Status.TheVariants.{Done, Usage, ListTooLong, ReadFault, PatternRefused, DiskFault, OutFault, NoMemory, NotYet}
+use Rattle.triage_run.specs.declared.status.Status.TheVariants.{Done, Usage, ListTooLong, ReadFault, PatternRefused, TooManyPages, DiskFault, OutFault, NoMemory, NotYet}
 use Rattle.triage_run.specs.declared.status.List.{List as ListName}
 use Rattle.triage_run.specs.declared.status.List.TheVariants.{Stop, Alert}
 use Rattle.triage_run.specs.declared.status.ReadPlace.{ReadPlace}
 use Rattle.triage_run.specs.declared.status.ReadPlace.TheVariants.{StopList, AlertList, Image, Page}
 use Rattle.triage_run.specs.declared.status.Unbuilt.{Unbuilt}
-use Rattle.triage_run.specs.declared.status.Unbuilt.TheVariants.{Parts, Log, Size}
+use Rattle.triage_run.specs.declared.status.Unbuilt.TheVariants.{Log}
 use Rattle.triage_run.specs.declared.summary.FileLines.{FileLines}
 use Rattle.scan_settings.specs.declared.fault.Why.{Why}
 use Rattle.scan_settings.specs.Faults.{why_text}
@@ -36,11 +36,9 @@ place_text AlertList = codes "alert list"
 place_text Image = codes "image"
 place_text (Page page) = codes "page " ++ decimal page
 
--- which form of input isn't built
+-- which form of a command isn't built
 abbrev pub unbuilt_text : Unbuilt → List ℕ
-unbuilt_text Parts = codes "parts"
 unbuilt_text Log = codes "log"
-unbuilt_text (Size bytes) = codes "size " ++ decimal bytes
 
 -- the line of a refusal; a text that could not be put has none
 abbrev pub line_of : Status → List ℕ
@@ -48,6 +46,7 @@ line_of (Usage word why) = codes "usage: " ++ word_text word why ++ codes "\n"
 line_of (ListTooLong list size) = codes "list too long: " ++ list_text list ++ codes " " ++ decimal size ++ codes "\n"
 line_of (ReadFault place) = codes "read fault: " ++ place_text place ++ codes "\n"
 line_of (PatternRefused index) = codes "pattern refused: " ++ decimal index ++ codes "\n"
+line_of (TooManyPages pages) = codes "too many pages: " ++ decimal pages ++ codes "\n"
 line_of DiskFault = codes "disk fault\n"
 line_of NoMemory = codes "no memory\n"
 line_of (NotYet what) = codes "not yet: " ++ unbuilt_text what ++ codes "\n"

@@ -1,12 +1,15 @@
 -- What the words of a call ask for, and the forms of a command that aren't built.
-use Rattle.std.specs.Prelude.{◌≡◌, ℕ, ◌≤◌, nat_lt, List, [], length, String, Option, Some, None, option_and_then, Result, Ok, Err, if◌then◌else◌}
+use Rattle.std.specs.Prelude.{◌≡◌, ℕ, ◌≤◌, List, [], length, String, Option, Some, None, option_and_then, Result, Ok, Err, if◌then◌else◌}
 use Rattle.image_gen.specs.declared.image.TheConstants.{IMAGE_MOST as GENERATED_MOST}
+use Rattle.image_source.specs.declared.parts.TheConstants.{PARTS_MOST}
 use Rattle.scan_find.specs.declared.TheConstants.{PATTERNS_MOST}
 use Rattle.scan_settings.specs.declared.fault.BadWord.{BadWord}
 use Rattle.scan_settings.specs.declared.settings.Plan.{Plan}
 use Rattle.scan_settings.specs.declared.words.Command.{Command}
 use Rattle.scan_settings.specs.declared.words.Command.TheVariants.{Scan as ScanCommand, Generate as GenerateCommand}
 use Rattle.scan_settings.specs.Faults.{bad}
+use Rattle.scan_settings.specs.Lawful.{IsWithin}
+use Rattle.scan_settings.specs.Options.{page, margin}
 use Rattle.scan_settings.specs.Settings.{texts}
 use Rattle.scan_settings.specs.Words.{command_of}
 use Rattle.scan_set.specs.declared.plan.ScanPlan.{ScanPlan}
@@ -14,7 +17,7 @@ use Rattle.scan_set.specs.Lawful.{IsLawful}
 use Rattle.triage_run.specs.declared.status.Status.{Status}
 use Rattle.triage_run.specs.declared.status.Status.TheVariants.{Usage, NoMemory, NotYet}
 use Rattle.triage_run.specs.declared.status.Unbuilt.{Unbuilt}
-use Rattle.triage_run.specs.declared.status.Unbuilt.TheVariants.{Parts, Log}
+use Rattle.triage_run.specs.declared.status.Unbuilt.TheVariants.{Log}
 use Rattle.triage_run.specs.declared.words.Search.{Search}
 use Rattle.triage_run.specs.declared.words.Scan.{Scan as ScanTask}
 use Rattle.triage_run.specs.declared.words.Task.{Task}
@@ -38,13 +41,13 @@ plan_of plan = record {
 -- what a command asks for
 abbrev pub task_in : Command → Task
 task_in (ScanCommand settings parts place) = Scan (record {
-  search = record { page = settings.page; plan = plan_of settings.plan };
+  search = record { page = settings.page; margin = settings.margin; plan = plan_of settings.plan };
   lists = record { stop = settings.stop; alert = settings.alert };
   parts = parts;
   out = place;
 })
 task_in (GenerateCommand settings seed size) = Generate (record {
-  search = record { page = settings.page; plan = plan_of settings.plan };
+  search = record { page = settings.page; margin = settings.margin; plan = plan_of settings.plan };
   seed = seed;
   size = size;
 })
@@ -80,24 +83,29 @@ patterns_in None = []
 abbrev pub patterns_asked : {A : Type 0} → List (String A) → List (List ℕ)
 patterns_asked words = patterns_in (task_of (command_of (texts words)))
 
--- what may be looked for, in pages that have bytes
+-- what may be looked for, and in which pages
 pub record IsSearch (search : Search) : Type 0 where
   pub plan : IsLawful search.plan
   pub few_patterns : length search.plan.patterns ≤ PATTERNS_MOST
-  pub page : 1 ≤ search.page
+  pub page : IsWithin page search.page
+  pub margin : IsWithin margin search.margin
 
--- a scan has at least one part, and an image that is made at most 64 MiB
+-- a scan of 1 to 64 parts
+pub record IsScan (scan : ScanTask) : Type 0 where
+  pub search : IsSearch scan.search
+  pub some : 1 ≤ length scan.parts
+  pub most : length scan.parts ≤ PARTS_MOST
+
+-- such a scan, or an image that is made of at most 64 MiB
 abbrev pub IsTask : Task → Type 0
-IsTask (Scan scan) = IsSearch scan.search × (1 ≤ length scan.parts)
+IsTask (Scan scan) = IsScan scan
 IsTask (Generate made) = IsSearch made.search × (made.size ≤ GENERATED_MOST)
 
 -- ---- what isn't built
 
 -- the first form of a command that isn't built
 abbrev pub unbuilt_in : Command → Option Unbuilt
-unbuilt_in (ScanCommand settings parts place) =
-    if nat_lt 1 (length parts) then Some Parts
-    else (if settings.with_log then Some Log else None)
+unbuilt_in (ScanCommand settings parts place) = if settings.with_log then Some Log else None
 unbuilt_in (GenerateCommand settings seed size) = if settings.with_log then Some Log else None
 
 -- the same of the command that words give

@@ -15,9 +15,8 @@ ghost use Rattle.triage_run.specs.Words.{scan_asked, patterns_asked};
 use crate::generate::generate;
 use crate::lists::read_lists;
 use crate::patterns::build_matchers;
-use crate::scan::scan_part;
+use crate::scan::{ScanEnd, scan_image};
 use crate::status::Status;
-use crate::summary::Summary;
 use crate::text::print_end;
 use crate::words::{Task, task_given};
 use host_disk::Disk;
@@ -36,8 +35,8 @@ pub struct Outcome<S, L, D, K, O> {
     pub status: Status,
 }
 
-/// Does what the words say: `scan IMAGE OUT` scans the image, which the sources hold under its name, and writes the
-/// report into the place OUT of the disk. The source `lists` holds the stop list and the alert list that the words
+/// Does what the words say: `scan PART.. OUT` scans the image of these parts, one behind the other, which the sources hold
+/// under their names, and writes the report into the place OUT of the disk. The source `lists` holds the stop list and the alert list that the words
 /// name, and the kit builds the patterns that they give. `generate SEED SIZE` makes an image in memory, and scans it
 /// there. Then the text of the status is put to the sink: what was found, or the line of a refusal.
 pub fn triage<S, L, D, K, O>(
@@ -90,7 +89,7 @@ where
 
     // Done leaves the report of the whole image under both lists, by readings that the patterns have, and puts its
     // text; each refusal has its cause and puts its line, and each cause that is seen first is refused; where the sink
-    // alone failed, the report stands; a lawful scan of one part over objects that don't fail is done, or wants memory.
+    // alone failed, the report stands; a lawful scan over objects that don't fail is done, or wants memory.
     ensures answers { (readings : List K.M.Reading) × Answers (and_sink O.taken O.faults out result.out
         (and_kit (K.refusals kit) (K.refusals result.kit) (and_readings K.M.reads K.M.matches readings
         (and_lists L.nature L.slots L.faults lists result.lists (call_of S.nature S.slots S.faults D.nature D.files D.faults
@@ -106,9 +105,13 @@ where
     let mut disk = disk;
     let mut kit = kit;
     let mut out = out;
-    let first = &mut sources[0];
-    let scanned = scan_words(alloc, words, first, &mut lists, &mut disk, &mut kit);
-    let status = print_end(alloc, scanned, &mut out);
+    let first = sources.remove(0);
+    let ScanEnd { source, found } = scan_words(
+        alloc, words, first, &mut lists, &mut disk, &mut kit,
+    );
+    // It goes back to the room that it came from.
+    sources.insert(0, source).unwrap();
+    let status = print_end(alloc, found, &mut out);
     Outcome {
         sources,
         lists,
@@ -119,47 +122,56 @@ where
     }
 }
 
-// Does what the words say with one source, and gives what was found, or the refusal.
+// Does what the words say with one source.
 fn scan_words<S: Source, L: Source, D: Disk, K: Kit>(
     alloc: Global,
     words: &[String],
-    source: &mut S,
+    source: S,
     lists: &mut L,
     disk: &mut D,
     kit: &mut K,
-) -> Result<Summary, Status>
+) -> ScanEnd<S>
     requires words { length words.now < 2 ^ 32 }
-    requires ready { IsReady S.nature S.slots (scan_asked words.now) source.old }
+    requires ready { IsReady S.nature S.slots (scan_asked words.now) source }
     requires lists { AreReady (L.nature lists.old) (L.slots lists.old) (lists_of (scan_asked words.now)) }
     requires unmounted { D.mounted disk.old ≡ false }
     requires out { IfSome (scan_asked words.now) (λ scan. IsTrue ((D.nature disk.old).may_mount scan.out)) }
     requires patterns { MayBuild (K.may_build kit.old) (patterns_asked words.now) }
-    ensures source { KeepsSource S.nature S.faults source.old source.new }
+    ensures source { KeepsSource S.nature S.faults source result.source }
     ensures lists { KeepsSource L.nature L.faults lists.old lists.new }
     ensures disk { KeepsDisk D.nature D.faults disk.old disk.new }
     ensures kit { KeepsKit K.may_build K.refusals kit.old kit.new }
-    ensures made { scan_asked words.now ≡ None → (source.new ≡ source.old) × (lists.new ≡ lists.old) × (disk.new ≡ disk.old) }
-    ensures unlisted { IsAheadOf stop_list (scanned_as result) → lists.new ≡ lists.old }
-    ensures unasked { IsAheadOf build (scanned_as result) → kit.new ≡ kit.old }
-    ensures unread { IsAheadOf attach (scanned_as result) → source.new ≡ source.old }
-    ensures untouched { IsAheadOf mount (scanned_as result) → disk.new ≡ disk.old }
-    ensures slots { OnlyParts (scan_asked words.now) (S.slots source.new) }
+    ensures made { scan_asked words.now ≡ None → (result.source ≡ source) × (lists.new ≡ lists.old) × (disk.new ≡ disk.old) }
+    ensures unlisted { IsAheadOf stop_list (scanned_as result.found) → lists.new ≡ lists.old }
+    ensures unasked { IsAheadOf build (scanned_as result.found) → kit.new ≡ kit.old }
+    ensures unread { IsAheadOf attach (scanned_as result.found) → result.source ≡ source }
+    ensures untouched { IsAheadOf mount (scanned_as result.found) → disk.new ≡ disk.old }
+    ensures slots { OnlyParts (scan_asked words.now) (S.slots result.source) }
     ensures list_slots { OnlyLists (lists_of (scan_asked words.now)) (L.slots lists.new) }
-    ensures mounted { IsBehind mount (scanned_as result) → IfSome (scan_asked words.now) (λ scan. D.mounted disk.new ≡ true) }
+    ensures mounted { IsBehind mount (scanned_as result.found) → IfSome (scan_asked words.now) (λ scan. D.mounted disk.new ≡ true) }
     ensures others { KeepsOthers (files_of (scan_asked words.now)) (D.nature disk.old) (D.files disk.old) (D.files disk.new) }
-    ensures unwritten { IfReadFault (scanned_as result) (D.files disk.new ≡ D.files disk.old) }
-    ensures refused { IfErr result IsRefusal }
-    ensures sure { OnOk result ((S.faults source.new ≡ S.faults source.old) × (L.faults lists.new ≡ L.faults lists.old) × (D.faults disk.new ≡ D.faults disk.old) × (K.refusals kit.new ≡ K.refusals kit.old)) }
+    ensures unwritten { IfReadFault (scanned_as result.found) (D.files disk.new ≡ D.files disk.old) }
+    ensures refused { IfErr result.found IsRefusal }
+    ensures sure { OnOk result.found ((S.faults result.source ≡ S.faults source) × (L.faults lists.new ≡ L.faults lists.old) × (D.faults disk.new ≡ D.faults disk.old) × (K.refusals kit.new ≡ K.refusals kit.old)) }
     ensures scanned { (readings : List K.M.Reading) × Scanned (and_kit (K.refusals kit.old) (K.refusals kit.new) (and_readings K.M.reads K.M.matches readings
         (and_lists L.nature L.slots L.faults lists.old lists.new
-        (call_over S.nature S.slots S.faults D.nature D.files D.faults (command_of (texts words.now)) source.old source.new disk.old disk.new)))) result }
+        (call_over S.nature S.slots S.faults D.nature D.files D.faults (command_of (texts words.now)) source result.source disk.old disk.new)))) result.found }
 {
-    let scan = match task_given(alloc, words)? {
-        Task::Scan(scan) => scan,
-        Task::Generate(made) => return generate(alloc, &made, kit),
+    let scan = match task_given(alloc, words) {
+        Ok(Task::Scan(scan)) => scan,
+        Ok(Task::Generate(made)) => {
+            let found = generate(alloc, made, kit);
+            return ScanEnd { source, found };
+        }
+        Err(refusal) => return ScanEnd::refused(source, refusal),
     };
-    let entries = read_lists(alloc, &scan.lists, lists)?;
-    let matchers = build_matchers(alloc, kit, scan.search.plan.patterns.items())?;
-    let part = scan.parts.items()[0].as_str();
-    scan_part(alloc, &scan, part, &entries, matchers, source, disk)
+    let entries = match read_lists(alloc, &scan.lists, lists) {
+        Ok(entries) => entries,
+        Err(refusal) => return ScanEnd::refused(source, refusal),
+    };
+    let matchers = match build_matchers(alloc, kit, scan.search.plan.patterns.items()) {
+        Ok(matchers) => matchers,
+        Err(refusal) => return ScanEnd::refused(source, refusal),
+    };
+    scan_image(alloc, &scan, &entries, matchers, source, disk)
 }

@@ -8,12 +8,13 @@
 //! over objects that don't fail is done, or wants memory.
 //!
 //! A call goes from `call` by `words` (what is asked for), `lists` (the stop list and the alert list) and `patterns`
-//! to `scan` (one part: attach, size, mount, read) and `report` (what is found, its classes, and the files) with
-//! `summary` (what was found, in numbers), and ends in `text` (the lines, and the sink). `generate` makes an image,
-//! and scans it where it stands, with a disk of its own.
+//! to `scan` (attach the parts, count the pages, mount), `find` (page after page, what is found and its classes) and
+//! `report` (the files) with `summary` (what was found, in numbers), and ends in `text` (the lines, and the sink).
+//! `generate` makes an image, and scans it by the same call, with a source and a disk of its own.
 #![tactic(auto)]
 
 mod call;
+mod find;
 mod generate;
 mod lists;
 mod patterns;
@@ -27,7 +28,7 @@ mod words;
 
 pub use call::{Outcome, triage};
 pub use lists::LIST_MOST;
-pub use scan::IMAGE_MOST;
+pub use scan::PAGES_MOST;
 pub use scan_settings::Why;
 pub use status::{List, ReadPlace, Status, Unbuilt};
 

@@ -17,13 +17,15 @@ pub enum Status {
     ReadFault { place: ReadPlace },
     /// The kit did not read the text of the pattern of this number, counted from 0.
     PatternRefused { index: u32 },
+    /// The image has so many pages, which are more than are scanned.
+    TooManyPages { pages: u64 },
     /// The disk failed.
     DiskFault,
     /// The report stands, and the sink failed to take its text.
     OutFault,
     /// The allocator had no room.
     NoMemory,
-    /// The input has a form that isn't built yet.
+    /// The command has a form that isn't built yet.
     NotYet { what: Unbuilt },
 }
 
@@ -45,19 +47,15 @@ pub enum ReadPlace {
     AlertList,
     /// A part of the image could not be attached.
     Image,
-    /// The bytes of this page could not be read.
+    /// The bytes of this page, counted from 0, could not be read.
     Page(u64),
 }
 
-/// A form of input that isn't built yet.
+/// A form of a command that isn't built yet.
 #[derive(Clone, Copy, Debug, PartialEq, Eq)]
 pub enum Unbuilt {
-    /// An image in more than one part.
-    Parts,
     /// The log of a scan.
     Log,
-    /// An image of this size in bytes.
-    Size(u64),
 }
 
 impl Status {
@@ -73,6 +71,7 @@ impl Status {
             Status::ListTooLong { .. } => 3,
             Status::ReadFault { .. } => 4,
             Status::PatternRefused { .. } => 5,
+            Status::TooManyPages { .. } => 7,
             Status::DiskFault => 8,
             Status::OutFault => 13,
             Status::NoMemory => 14,

@@ -5,6 +5,7 @@ ghost use Rattle.host_disk.specs.MemDisk.{mem_mounted};
 
 mod calls;
 mod generate;
+mod images;
 mod lists;
 mod patterns;
 mod refusals;

@@ -73,11 +73,9 @@ impl fmt::Display for Unbuilt {
     ghost output = { λ what. Some (unbuilt_text what) };
 
     fn fmt<W: fmt::Write>(&self, f: &mut fmt::Formatter<W>) -> fmt::Result {
-        match self {
-            Unbuilt::Parts => f.write_str("parts"),
-            Unbuilt::Log => f.write_str("log"),
-            Unbuilt::Size(bytes) => write!(f, "size {bytes}"),
-        }
+        f.write_str(match self {
+            Unbuilt::Log => "log",
+        })
     }
 }
 
@@ -96,6 +94,7 @@ fn line_of(alloc: Global, refusal: Status) -> Result<String, AllocError>
         }
         Status::ReadFault { place } => format!(in alloc; "read fault: {place}\n"),
         Status::PatternRefused { index } => format!(in alloc; "pattern refused: {index}\n"),
+        Status::TooManyPages { pages } => format!(in alloc; "too many pages: {pages}\n"),
         Status::DiskFault => String::from_str(alloc, "disk fault\n"),
         Status::NoMemory => String::from_str(alloc, "no memory\n"),
         Status::NotYet { what } => format!(in alloc; "not yet: {what}\n"),

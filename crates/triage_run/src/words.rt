@@ -23,6 +23,8 @@ pub struct ListNames {
 pub struct Search {
     /// How many bytes a page has.
     pub page: u64,
+    /// How many bytes behind a page belong to its window.
+    pub margin: u64,
     /// What is looked for, and how deep.
     pub plan: ScanPlan,
 }
@@ -85,7 +87,6 @@ fn unbuilt_in(command: &Command) -> Option<Unbuilt>
     ensures { result ≡ unbuilt_in command.now }
 {
     match command {
-        Command::Scan { parts, .. } if parts.items().len() > 1 => Some(Unbuilt::Parts),
         Command::Scan { settings, .. } | Command::Generate { settings, .. } => {
             settings.with_log.then_some(Unbuilt::Log)
         }
@@ -106,13 +107,14 @@ fn task_in(command: Command) -> Task
         } => {
             let Settings {
                 page,
+                margin,
                 plan,
                 stop,
                 alert,
                 ..
             } = settings;
             Task::Scan(Scan {
-                search: search_of(page, plan),
+                search: search_of(page, margin, plan),
                 lists: ListNames { stop, alert },
                 parts,
                 out: place,
@@ -123,20 +125,26 @@ fn task_in(command: Command) -> Task
             seed,
             size,
         } => {
-            let Settings { page, plan, .. } = settings;
-            let search = search_of(page, plan);
+            let Settings {
+                page,
+                margin,
+                plan,
+                ..
+            } = settings;
+            let search = search_of(page, margin, plan);
             Task::Generate(Generate { search, seed, size })
         }
     }
 }
 
 // What is looked for by what options set.
-fn search_of(page: u64, plan: Plan) -> Search
+fn search_of(page: u64, margin: u64, plan: Plan) -> Search
     ensures page { result.page ≡ page }
+    ensures margin { result.margin ≡ margin }
     ensures plan { result.plan ≡ plan_of plan }
 {
     let plan = plan_of(plan);
-    Search { page, plan }
+    Search { page, margin, plan }
 }
 
 // The plan of a scan by what options set of it.

@@ -110,8 +110,8 @@ const UNBUILT: &[(&[&str], Unbuilt, &str)] = &[
     ),
     (
         &["scan", "--log", "a", "b", "o"],
-        Unbuilt::Parts,
-        "not yet: parts\n",
+        Unbuilt::Log,
+        "not yet: log\n",
     ),
     (
         &["scan", "--stop", "s", "--log", "i", "o"],
@@ -156,15 +156,11 @@ const NUMBERS: &[(Status, u8)] = &[
         4,
     ),
     (Status::PatternRefused { index: 1 }, 5),
+    (Status::TooManyPages { pages: 1 }, 7),
     (Status::DiskFault, 8),
     (Status::OutFault, 13),
     (Status::NoMemory, 14),
-    (
-        Status::NotYet {
-            what: Unbuilt::Parts,
-        },
-        15,
-    ),
+    (Status::NotYet { what: Unbuilt::Log }, 15),
 ];
 
 #[test]

@@ -1,6 +1,6 @@
 use Rattle.std.proofs.Common.{◌≡◌, ◌++◌, map}
 use Rattle.triage_run.specs.Lists.{classed_under}
-use Rattle.triage_run.proofs.report.class_into.Given as goal
+use Rattle.triage_run.proofs.find.class_into.Given as goal
 
 -- the features passed are appended
 abbrev pub invariant-loop-item : goal.invariant-loop-item
