@@ -68,3 +68,16 @@ module _ (stranger : ℕ → Bool) (end first : ℕ) where
       let f : first + 16 + 64 + bit ≡ first + 80 + bit = omega arith in
       let g : first + 16 + 96 + bit ≡ first + 112 + bit = omega arith in
       apart_bar bit one.0 one.1 (ap stranger (sym e) ∙ two.1) (ap stranger (sym f) ∙ three.1) (ap stranger (sym g) ∙ four.1)
+
+  -- a short step of the search: two masks that share a bit
+  pub short_step_bars : (a b : ℕ) → a ≡ mask_of stranger (first + 16) 16 → b ≡ mask_of stranger (first + 16 + 32) 16
+      → IsTrue (not (nat_eq (bit_and a b) 0)) → NoRowIn stranger end first (first + 48)
+  short_step_bars a b is_a is_b some =
+      let below : bit_and a b < 2 ^ 64 = omega (arith, and_le_l a b, is_a, small stranger (first + 16)) in
+      let bit = trailing_zeros w64 (bit_and a b) in
+      let both = in_both a b bit (bit_at-trailing_zeros w64 (bit_and a b) (omega (arith, other (bit_and a b) some)) below).1 in
+      let one = shown stranger (first + 16) bit (ap (λ mask. bit_at mask bit) (sym is_a) ∙ both.0) in
+      let two = shown stranger (first + 16 + 32) bit (ap (λ mask. bit_at mask bit) (sym is_b) ∙ both.1) in
+      no_row_further stranger end first (first + 17 + bit) (first + 48)
+      (barred stranger end first (first + 17 + bit) (first + 16 + bit) one.1 (omega arith) (omega arith))
+      (barred stranger end (first + 17 + bit) (first + 48) (first + 16 + 32 + bit) two.1 (omega arith) (omega (arith, one.0)))

@@ -7,7 +7,7 @@
 //
 // What passes over most is tried first. In bytes that have few others than strangers two single places tell of a
 // step. Where both are mixed, as in random bytes, a branch on single places is often mispredicted; there four masks
-// that stand a row apart nearly always show a stranger at the same bit.
+// that stand a row apart mostly show a stranger at the same bit, and else the first two of them nearly always.
 ghost use Rattle.std.specs.Prelude.{◌≡◌, ◌+◌, ◌≤◌, length, IsTrue};
 ghost use Rattle.vector_search.specs.Rows.{NoRowIn, IsNextRow};
 
@@ -24,6 +24,9 @@ const LAST: usize = LANES - 1;
 
 // How many places a long step passes over: up to the last of its four masks, which stand a row apart.
 const LONG_STEP: usize = 3 * ROW + LANES;
+
+// How many places a short step passes over: up to the last of its two masks.
+const SHORT_STEP: usize = ROW + LANES;
 
 /// The first place from `from` up to `to` at which a row stands, or `to` where none does: the `ROW` places
 /// from it on lie within the bytes, behind `to` too, and none of them passes the test. It asks for a test
@@ -91,8 +94,14 @@ fn past_shared<T: PlaceTest>(strangers: &T, bytes: &[u8], from: usize, to: usize
 {
     let length = bytes.len();
     let mut at = from;
-    while at < to && length - at >= LONG_STEP + LANES && are_shared(strangers, bytes, at) {
-        at += LONG_STEP;
+    while at < to && length - at >= LONG_STEP + LANES {
+        if are_shared(strangers, bytes, at) {
+            at += LONG_STEP;
+        } else if are_paired(strangers, bytes, at) {
+            at += SHORT_STEP;
+        } else {
+            return at;
+        }
     }
     at
 }
@@ -109,6 +118,18 @@ fn are_shared<T: PlaceTest>(strangers: &T, bytes: &[u8], at: usize) -> bool
     let third = strangers.mask(bytes, at + LANES + 2 * ROW);
     let fourth = strangers.mask(bytes, at + LANES + 3 * ROW);
     (first & second) & (third & fourth) != 0
+}
+
+// No row stands at one of the places of a short step.
+#[inline(always)]
+fn are_paired<T: PlaceTest>(strangers: &T, bytes: &[u8], at: usize) -> bool
+    requires within { at + SHORT_STEP + LANES ≤ length bytes.now }
+    requires alone { T.REACH ≡ 0 }
+    ensures { IsTrue result → NoRowIn (T.passes strangers.now bytes.now) (length bytes.now) at (at + SHORT_STEP) }
+{
+    let first = strangers.mask(bytes, at + LANES);
+    let second = strangers.mask(bytes, at + LANES + ROW);
+    first & second != 0
 }
 
 // A place from `from` on ahead of which, from `from` on, no row stands. It goes no further than a long step
