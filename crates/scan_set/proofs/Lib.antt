@@ -12,3 +12,4 @@ pub mod Levels
 pub mod Made
 pub mod Fitting
 pub mod SameLooks
+mod FirstRows

@@ -1,5 +1,5 @@
 -- What the searches of a buffer list, and the feature that each mark of it makes.
-use Rattle.std.specs.Prelude.{ℕ, ◌+◌, ◌==◌, List, [], ◌++◌, take, Option, Some, None, if◌then◌else◌}
+use Rattle.std.specs.Prelude.{ℕ, ◌==◌, List, [], ◌++◌, take, Option, Some, None, if◌then◌else◌}
 use Rattle.forensic_path.specs.declared.scanner.Scanner.TheVariants as scanner
 use Rattle.forensic_path.specs.declared.feature.Kind.{Kind}
 use Rattle.forensic_path.specs.declared.feature.Kind.TheVariants.{Ip, Ether, Exec, Unread}

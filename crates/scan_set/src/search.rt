@@ -1,5 +1,7 @@
 // The searches of a block.
 ghost use Rattle.std.specs.Prelude.{◌≡◌, ◌≤◌, false, length, map, OnOk};
+ghost use Rattle.decode_base64.specs.Starts.{base64_starts};
+ghost use Rattle.decode_hex.specs.Starts.{hex_starts};
 ghost use Rattle.sbuf_nest.specs.Marks.{owned_marks};
 ghost use Rattle.scan_set.specs.Decoders.{base64_at, hex_at, utf16_at};
 ghost use Rattle.scan_set.specs.Events.{plain_events, text_event, merged_events};
@@ -16,7 +18,7 @@ use scan_exec::find_execs;
 use scan_find::{Lengths, Matcher, PATTERNS_MOST, find_given_into};
 use scan_net::find_packets;
 use scan_url::find_urls;
-use scan_wordlist::find_words;
+use scan_wordlist::{find_words, next_word_row};
 use std::alloc::Global;
 
 // The lists that searches fill. None is made anew for a block.
@@ -108,7 +110,8 @@ fn search_scanners<M: Matcher>(
     Ok(())
 }
 
-// Adds the events of the decoders to those of the scanners.
+// Adds the events of the decoders to those of the scanners. Base64 and hexadecimal digits are searched from the
+// first row of word bytes on, since neither begins ahead of it.
 fn search_decoders(block: &Sbuf, plan: &ScanPlan, lists: &mut Lists) -> Result<(), NoMemory>
     ensures { OnOk result
         (lists.new.events.items.items ≡ merged_events (merged_events (merged_events lists.old.events.items.items
@@ -116,13 +119,24 @@ fn search_decoders(block: &Sbuf, plan: &ScanPlan, lists: &mut Lists) -> Result<(
         (map text_event (owned_marks (hex_at plan.now) block.now)))
         (map text_event (owned_marks (utf16_at plan.now) block.now))) }
 {
-    search_base64(block, plan, &mut lists.starts)?;
+    let rows = from_first_row(block);
+    search_base64(&rows, plan, &mut lists.starts)?;
     lists.events.merge(lists.starts.items())?;
-    search_hex(block, plan, &mut lists.starts)?;
+    search_hex(&rows, plan, &mut lists.starts)?;
     lists.events.merge(lists.starts.items())?;
     search_utf16(block, plan, &mut lists.starts)?;
     lists.events.merge(lists.starts.items())?;
     Ok(())
+}
+
+// The part of a block from the first row of word bytes on. Each Base64 text begins with such a row, and each run
+// of hexadecimal digits does; random and compressed bytes have none.
+fn from_first_row<'a>(block: &Sbuf<'a>) -> Sbuf<'a>
+    ensures base64 { owned_marks base64_starts result ≡ owned_marks base64_starts block.now }
+    ensures hex { owned_marks hex_starts result ≡ owned_marks hex_starts block.now }
+{
+    let from = next_word_row(block.bytes, block.own_from(), block.own_to());
+    Sbuf::of(block.bytes, from, block.own_to(), block.base)
 }
 
 // Lists URLs and domains.

@@ -8,9 +8,11 @@
 mod filter;
 mod find;
 mod word;
+mod word_rows;
 
 pub use find::find_words;
 pub use word::word_len;
+pub use word_rows::next_word_row;
 
 /// The most bytes that a word may be asked to have.
 pub const WORD_MOST: u16 = 256;

@@ -1,4 +1,4 @@
-use crate::{WORD_MOST, find_words, word_len};
+use crate::{WORD_MOST, find_words, next_word_row, word_len};
 use byte_kit::NoMemory;
 use forensic_path::Kind::Word;
 use sbuf_nest::{Found, Look, Mark, Sbuf};
@@ -211,6 +211,27 @@ fn no_word_begins_within_a_run_that_began_ahead(rt: HostRuntime) -> Result<(), F
         let bytes = spaced(rt.alloc(), ahead, word, 1024)?;
         let found = are_words((bytes.as_slice(), from, 1024), bounds, want, rt.alloc())?;
         assert!(rt; found, "{word:?} from {from}");
+    }
+    Ok(())
+}
+
+// Where the next row is looked for among 256 bytes: so many letters behind so many blanks, and blanks behind them.
+fn next_row_in(alloc: Global, ahead: usize, letters: usize) -> Result<usize, NoMemory> {
+    let word = &LETTERS[..letters.min(LETTERS.len())];
+    let bytes = spaced(alloc, ahead, word, 256)?;
+    Ok(next_word_row(bytes.as_slice(), 0, bytes.len()))
+}
+
+#[test]
+fn a_row_has_32_word_bytes_at_every_offset(rt: HostRuntime) -> Result<(), Fail> {
+    for at in 0..200 {
+        for (letters, wanted) in [(31, 256), (32, at), (33, at), (56, at)] {
+            assert_eq!(rt;
+                next_row_in(rt.alloc(), at, letters)?,
+                wanted,
+                "{letters} at {at}"
+            );
+        }
     }
     Ok(())
 }

@@ -78,19 +78,20 @@ CountsImage page items told found = IfSome told (λ image. found ≡ counts_in p
 
 -- ---- refusals
 
--- what the scan of an image is refused for; want of memory is free
+-- what a scan is refused for behind the attach, by when pages are too many, and which pages there are; want of memory
+-- is free
+abbrev pub IsEndBehindAttach : (ℕ → Type 0) → (ℕ → Type 0) → Type 0 → Type 0 → Status → Type 0
+IsEndBehindAttach are_many is_page source_rose disk_rose (TooManyPages pages) = are_many pages
+IsEndBehindAttach are_many is_page source_rose disk_rose DiskFault = disk_rose
+IsEndBehindAttach are_many is_page source_rose disk_rose (ReadFault (Page number)) = source_rose × is_page number
+IsEndBehindAttach are_many is_page source_rose disk_rose NoMemory = Unit {0}
+IsEndBehindAttach are_many is_page source_rose disk_rose _ = ⊥
+
+-- what the scan of an image is refused for
 abbrev pub IsImageEnd : ImageSeen → Type 0 → Type 0 → Status → Type 0
 IsImageEnd image source_rose disk_rose (ReadFault Image) = source_rose
-IsImageEnd image source_rose disk_rose (TooManyPages pages) = AreTooMany image pages
-IsImageEnd image source_rose disk_rose DiskFault = disk_rose
-IsImageEnd image source_rose disk_rose (ReadFault (Page number)) = source_rose × HasPageAt image number
-IsImageEnd image source_rose disk_rose NoMemory = Unit {0}
-IsImageEnd image source_rose disk_rose _ = ⊥
+IsImageEnd image source_rose disk_rose status = IsEndBehindAttach (AreTooMany image) (HasPageAt image) source_rose disk_rose status
 
--- the same behind the attach, of an image of so many bytes
+-- what the scan of so many attached bytes is refused for
 abbrev pub IsPagesEnd : ℕ → ℕ → Type 0 → Type 0 → Status → Type 0
-IsPagesEnd size page source_rose disk_rose (TooManyPages pages) = (pages ≡ div_ceil size page) × (PAGES_MOST < pages)
-IsPagesEnd size page source_rose disk_rose DiskFault = disk_rose
-IsPagesEnd size page source_rose disk_rose (ReadFault (Page number)) = source_rose × IsPage size page number
-IsPagesEnd size page source_rose disk_rose NoMemory = Unit {0}
-IsPagesEnd size page source_rose disk_rose _ = ⊥
+IsPagesEnd size page = IsEndBehindAttach (λ pages. (pages ≡ div_ceil size page) × (PAGES_MOST < pages)) (IsPage size page)

@@ -1,4 +1,4 @@
-use Rattle.std.proofs.Common.{◌≡◌, ◌∙◌, [], length, sym, arith}
+use Rattle.std.proofs.Common.{◌≡◌, [], length, sym, arith}
 use Rattle.std.proofs.lemmas.List.{nil_from_length}
 use Rattle.scan_set.specs.Events.{event_place}
 use Rattle.scan_set.proofs.Merging.{merged-nil}
