@@ -6,7 +6,7 @@ use forensic_path::Kind::{Domain, Url};
 use sbuf_nest::Sbuf;
 use std::test::Fail;
 
-// A block has 65,536 places.
+// A block has 16,384 places, so 65,536 is a border of two.
 const ACROSS: &[Case] = &[
     (
         ONE_DEEP,

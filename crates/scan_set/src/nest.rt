@@ -1,9 +1,9 @@
 // The scan of a buffer, and of the buffers within it.
 //
-// A buffer is scanned block by block. A block is a run of owned places, 64 KiB of them or what is left.
+// A buffer is scanned block by block. A block is a run of owned places, 16 KiB of them or what is left.
 // All scanners search it, one after the other, and its features are made, before the next block is
-// begun: the second search and the features then read bytes that are still in the second level of the
-// processor's cache, which has 256 KiB or more. At the end of a search of a whole image its front has long
+// begun: the second search and the features then read bytes that are still in the first level of the
+// processor's cache, which has 32 KiB or more. At the end of a search of a whole image its front has long
 // left the cache.
 //
 // Where a text is encoded, it is decoded into the room of its level, and what it says is a buffer of the
@@ -32,7 +32,7 @@ use scan_find::Matcher;
 use std::alloc::Global;
 
 // How many places are searched before their features are made.
-const BLOCK_BYTES: usize = 65536;
+const BLOCK_BYTES: usize = 16384;
 
 // What all levels of a scan share.
 #[derive(Drop)]
